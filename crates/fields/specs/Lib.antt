@@ -1,0 +1,9 @@
+pub mod Faults
+pub mod Lines
+pub mod Newlines
+pub mod Numbers
+pub mod Numerals
+pub mod Pieces
+pub mod Readers
+pub mod Registers
+pub mod Tokens

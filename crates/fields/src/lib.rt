@@ -1,0 +1,8 @@
+// The lexical layer: a lent text into lines and fields, and decimal numbers both ways.
+pub mod faults;
+pub mod numbers;
+pub mod numeral;
+pub mod reader;
+pub mod registers;
+pub mod tokens;
+pub mod words;
