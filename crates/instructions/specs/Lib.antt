@@ -1,0 +1,4 @@
+pub mod Arguments
+pub mod Faults
+pub mod Keywords
+pub mod Lines
