@@ -2,3 +2,4 @@ pub mod Arguments
 pub mod Faults
 pub mod Keywords
 pub mod Lines
+pub mod Texts

@@ -1,0 +1,5 @@
+pub mod Faults
+pub mod Grammar
+pub mod Listings
+pub mod Reads
+pub mod Texts
