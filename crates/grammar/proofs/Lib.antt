@@ -1,1 +1,3 @@
-
+pub mod Cutting
+pub mod LinesBack
+pub mod LinesOnly

@@ -1,0 +1,4 @@
+// A routine: what each of its parties runs and where its words start, and reading one from a text.
+mod addresses;
+pub mod party;
+mod storage;

@@ -1,0 +1,1 @@
+// Storage, filled line by line.
