@@ -1,3 +1,10 @@
 pub mod Cutting
+pub mod Drafts
+pub mod LawfulTaken
+pub mod Lengths
+pub mod LineLists
 pub mod LinesBack
 pub mod LinesOnly
+pub mod Spelling
+pub mod TakenLawful
+pub mod WholeTexts

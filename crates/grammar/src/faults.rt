@@ -7,6 +7,7 @@ use instructions::faults::LineFault;
 use instructions::faults::LineFaultDebug;
 use instructions::faults::LineFaultEq;
 use instructions::faults::LineFaultPartialEq;
+use std::alloc::AllocError;
 
 #[derive(Clone, Copy, Debug, PartialEq, Eq)]
 pub enum RoutineFault {
@@ -35,6 +36,14 @@ pub impl From<LineFault> for RoutineFault as RoutineFromLine {
 
     fn from(e: LineFault) -> RoutineFault {
         RoutineFault::Line(e)
+    }
+}
+
+pub impl From<AllocError> for RoutineFault as RoutineFromAlloc {
+    ghost converts = { λ _ r. r ≡ RoutineFault.Memory };
+
+    fn from(_e: AllocError) -> RoutineFault {
+        RoutineFault::Memory
     }
 }
 

@@ -1,2 +1,5 @@
 pub mod Addresses
+pub mod Drafts
 pub mod Parties
+pub mod Stages
+pub mod Storages

@@ -1,0 +1,22 @@
+-- INIT lines and parties in storage.
+use mathlib.Core.Path.{_≡_, refl, sym, ap, _∙_}
+use mathlib.Core.List.{List, [], _∷_, _++_, map}
+use Prim.Native.Nat.{ℕ, suc, _+_, _-_, _≤_, _<_}
+use native.Mathlib.Omega.{arith}
+use lib.Dec.{ltb}
+use lib.ListN.{length, getD, take, set}
+use Rattle.std.proofs.shelf.Lists.{map-set, take-more-set, length-map}
+use Rattle.instructions.specs.declared.types.Init.{Init}
+use Rattle.grammar.specs.Reads.{above}
+
+-- only the last INIT line is asked
+pub above-last : (a : ℕ) (is : List Init) (d : Init) → 0 < length is → above a is ≡ ltb (getD is (length is - 1) d .address) a
+above-last a [] d h = absurd (omega arith)
+above-last a (i ∷ []) d h = refl
+above-last a (i ∷ (j ∷ is)) d h =
+    let e : length (i ∷ (j ∷ is)) - 1 ≡ suc (length (j ∷ is) - 1) = omega arith in
+    above-last a (j ∷ is) d (omega arith) ∙ sym (ap (λ n. ltb (getD (i ∷ (j ∷ is)) n d .address) a) e)
+
+-- one party more is in use
+pub one-more : {X Y : Type 0} (f : X → Y) (xs : List X) (n : ℕ) (x : X) → n < length xs → take (n + 1) (map f (set xs n x)) ≡ take n (map f xs) ++ (f x ∷ [])
+one-more f xs n x h = ap (take (n + 1)) (map-set f xs n x) ∙ take-more-set (map f xs) n (f x) (simp length-map h)
