@@ -1,5 +1,6 @@
 pub mod Cutting
 pub mod Drafts
+pub mod Exactly
 pub mod LawfulTaken
 pub mod Lengths
 pub mod LineLists

@@ -5,7 +5,7 @@ use Prim.Native.Nat.{ℕ, suc, _+_, _-_, _≤_, _<_}
 use native.Mathlib.Omega.{arith}
 use lib.Dec.{ltb}
 use lib.ListN.{length, getD, take, set}
-use Rattle.std.proofs.shelf.Lists.{map-set, take-more-set, length-map}
+use Rattle.std.proofs.shelf.Lists.{map-set, take-more-set, take-map, length-map}
 use Rattle.instructions.specs.declared.types.Init.{Init}
 use Rattle.grammar.specs.Reads.{above}
 
@@ -20,3 +20,9 @@ above-last a (i ∷ (j ∷ is)) d h =
 -- one party more is in use
 pub one-more : {X Y : Type 0} (f : X → Y) (xs : List X) (n : ℕ) (x : X) → n < length xs → take (n + 1) (map f (set xs n x)) ≡ take n (map f xs) ++ (f x ∷ [])
 one-more f xs n x h = ap (take (n + 1)) (map-set f xs n x) ∙ take-more-set (map f xs) n (f x) (simp length-map h)
+
+-- a part of a slice from its start, under a function
+pub part-in-use : {X Y : Type 0} (f : X → Y) (n : ℕ) (xs ys : List X) → xs ≡ ys → map f (take (n - 0) xs) ≡ take n (map f ys)
+part-in-use f n xs ys e =
+    let z : n - 0 ≡ n = omega arith in
+    (λ i. map f (take (z i) (e i))) ∙ sym (take-map f n ys)

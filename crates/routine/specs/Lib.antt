@@ -1,5 +1,7 @@
 pub mod Addresses
 pub mod Drafts
+pub mod Fresh
 pub mod Parties
+pub mod Routines
 pub mod Stages
 pub mod Storages

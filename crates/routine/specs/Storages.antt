@@ -34,3 +34,8 @@ initJoins i n is = cond (above (i .address) is) (cond (ltb (length is) 16) (Ok (
 abbrev pub Joined : {A : Type 0} → Result (Unit {0}) RoutineFault → Result A RoutineFault → A → Type 0
 Joined (Ok u) s now = s ≡ Ok now
 Joined (Err e) s now = s ≡ Err e
+
+-- the answer alone
+abbrev pub ended : {A : Type 0} → Result A RoutineFault → Result (Unit {0}) RoutineFault
+ended (Ok x) = Ok tt
+ended (Err e) = Err e

@@ -7,11 +7,15 @@ ghost use Rattle.instructions.specs.Keywords.{mayStand};
 ghost use Rattle.instructions.specs.declared.types.Line.{Line};
 ghost use Rattle.instructions.specs.declared.types.Stage.{Stage};
 ghost use Rattle.grammar.specs.Grammar.{wordOf};
-ghost use Rattle.grammar.specs.Reads.{accept, blank, readFrom};
-ghost use Rattle.routine.specs.Drafts.{drafted};
-ghost use Rattle.routine.specs.Storages.{Joined};
+ghost use Rattle.grammar.specs.Listings.{lawful, addressesOf};
+ghost use Rattle.grammar.specs.Reads.{accept, blank, readFrom, readOf, finished, outside};
+ghost use Rattle.routine.specs.Addresses.{notedList};
+ghost use Rattle.routine.specs.Drafts.{drafted, ReadInto};
+ghost use Rattle.routine.specs.Routines.{listing};
+ghost use Rattle.routine.specs.Storages.{Joined, ended, listingOf};
 use crate::draft::Draft;
 use crate::party::Party;
+use crate::routine::Routine;
 use crate::storage::Storage;
 use grammar::faults::RoutineFault;
 use grammar::faults::RoutineFromLine;
@@ -20,9 +24,14 @@ use instructions::types::Init;
 use instructions::types::Instruction;
 use instructions::types::Line;
 use instructions::types::Stage;
+use instructions::types::StagePartialEq;
 use fields::reader::Reader;
 use std::alloc::AllocError;
 use std::alloc::Global;
+
+const FEWEST_PARTIES: usize = 1;
+
+const LONGEST_TEXT: usize = 8192;
 
 impl Draft {
     // No line yet.
@@ -108,5 +117,39 @@ impl Draft {
             self.accept(line, reader.line())?;
         }
         Ok(())
+    }
+
+    // The questions at the text's end.
+    pub(crate) fn finish(&mut self) -> Result<(), RoutineFault>
+        ensures answer { λ r. ⌜ r ≡ ended (finished (drafted (now (self .entry)))) ⌝ }
+        ensures same { λ _. ⌜ drafted (now (self .exit)) ≡ drafted (now (self .entry)) ⌝ }
+        ensures noted { λ r. ⌜ made r (λ _. notedList (now (self .exit) .storage .addresses) ≡ addressesOf (listingOf (now (self .entry) .storage))) ⌝ }
+    {
+        if self.stage == Stage::Inside || self.storage.count() < FEWEST_PARTIES {
+            return Err(RoutineFault::Unfinished);
+        }
+        if !self.storage.note_addresses() {
+            return Err(RoutineFault::Addresses);
+        }
+        Ok(())
+    }
+
+    // Reads a whole text: which routine it is, or its first fault.
+    pub(crate) fn read_text(&mut self, text: &[u8]) -> Result<(), RoutineFault>
+        ensures { λ r. ⌜ ReadInto (readOf (now (text .entry))) r (now (self .exit)) ⌝ }
+    {
+        if text.is_empty() || text.len() > LONGEST_TEXT {
+            return Err(RoutineFault::Length);
+        }
+        self.read_lines(text)?;
+        self.finish()
+    }
+
+    // Puts what was read into the routine, whose storage is the draft's from then on.
+    pub(crate) fn hand_to(&mut self, routine: &mut Routine)
+        requires { ⌜ lawful (listingOf (now self .storage)) ≡ true ⌝ ∗ ⌜ notedList (now self .storage .addresses) ≡ addressesOf (listingOf (now self .storage)) ⌝ ∗ ⌜ outside (now self .stage) ≡ true ⌝ }
+        ensures { λ _. ⌜ listing (now (routine .exit)) ≡ listingOf (now (self .entry) .storage) ⌝ }
+    {
+        routine.exchange(&mut self.storage);
     }
 }

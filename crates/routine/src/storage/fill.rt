@@ -57,7 +57,7 @@ fn note_parties(addresses: &mut Addresses, parties: &[Party]) -> bool
 impl Storage {
     // No INIT line and no party yet.
     pub(crate) fn new(heap: Global) -> Result<Storage, AllocError>
-        ensures { λ r. ⌜ made r (λ s. (initsOf s ≡ []) × ((partiesOf s ≡ []) × (notedList (s .addresses) ≡ []))) ⌝ }
+        ensures { λ r. ⌜ made r (λ s. (initsOf s ≡ []) × ((partiesOf s ≡ []) × ((s .count ≡ 0) × (notedList (s .addresses) ≡ [])))) ⌝ }
     {
         let inits = Vec::with_capacity(heap, 16)?;
         let parties = four_parties(heap)?;
