@@ -1,0 +1,13 @@
+use mathlib.Core.Path.{refl, sym, _∙_}
+use Rattle.std.proofs.shelf.Lists.{set-past}
+use Rattle.printing.proofs.write.put_byte.Needs as need
+use Rattle.printing.proofs.write.put_byte.Needs.{then-at-out, else-at-out}
+
+pub returns : need.returns
+returns c = record {
+  writes = elim (c .if-at-out .came) [
+    | then-at-out w ↦ w .out-is
+    | else-at-out w ↦ w .out-is ∙ sym (set-past (c .args .out .now) (c .args .at) (c .args .byte) (w .if-at-out .left))
+  ];
+  ends = refl;
+}
