@@ -1,3 +1,4 @@
 pub mod Lengths
 pub mod Texts
 pub mod Writes
+pub mod Whole

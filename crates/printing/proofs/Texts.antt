@@ -30,14 +30,6 @@ ended-inits is more = ap ended (initLines-append is more) ∙ ended-append (init
 pub ended-party : (p : List Instruction) (ps : List (List Instruction)) → ended (partyLines (p ∷ ps)) ≡ ended (line.Party ∷ codeLines p []) ++ ended (partyLines ps)
 ended-party p ps = ap (λ bs. lineText line.Party ++ (10 ∷ bs)) (ended-code p (partyLines ps)) ∙ sym (append-assoc (lineText line.Party) (10 ∷ ended (codeLines p [])) (ended (partyLines ps)))
 
-pub partyLines-append : (ps qs : List (List Instruction)) → partyLines (ps ++ qs) ≡ partyLines ps ++ partyLines qs
-partyLines-append [] qs = refl
-partyLines-append (p ∷ ps) qs =
-    ap (λ ls. line.Party ∷ ls) (ap (codeLines p) (partyLines-append ps qs) ∙ codeLines-append p (partyLines ps ++ partyLines qs) ∙ sym (append-assoc (codeLines p []) (partyLines ps) (partyLines qs)) ∙ ap (λ ls. ls ++ partyLines qs) (sym (codeLines-append p (partyLines ps))))
-
-pub ended-parties : (ps qs : List (List Instruction)) → ended (partyLines (ps ++ qs)) ≡ ended (partyLines ps) ++ ended (partyLines qs)
-ended-parties ps qs = ap ended (partyLines-append ps qs) ∙ ended-append (partyLines ps) (partyLines qs)
-
 -- one more line before the rest
 pub ended-more : (l : Line) (ls : List Line) → ended (l ∷ ls) ≡ (lineText l ++ (10 ∷ [])) ++ ended ls
 ended-more l ls = sym (append-assoc (lineText l) (10 ∷ []) (ended ls))

@@ -16,11 +16,6 @@ sets-append l i (x ∷ xs) ys =
     let e : suc i + length xs ≡ i + length (x ∷ xs) = omega arith in
     sets-append (set l i x) (suc i) xs ys ∙ ap (λ n. sets (sets (set l i x) (suc i) xs) n ys) e
 
--- into an empty buffer
-pub sets-none : (i : ℕ) (xs : List ℕ) → sets [] i xs ≡ []
-sets-none i [] = refl
-sets-none i (x ∷ xs) = sets-none (suc i) xs
-
 -- into a buffer that has room
 pub sets-within : (l : List ℕ) (i : ℕ) (xs : List ℕ) → i + length xs ≤ length l → sets l i xs ≡ take i l ++ (xs ++ drop (i + length xs) l)
 sets-within l i xs h = sets-eq xs l i h ∙ append-assoc (take i l) xs (drop (i + length xs) l)

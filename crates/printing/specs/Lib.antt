@@ -1,1 +1,2 @@
--- The contracts cite the definitions of the crates below.
+pub mod Faults
+pub mod Prints

@@ -1,3 +1,5 @@
-// The lines of a routine's text, written into a lent buffer.
+// A routine's text, printed into a lent buffer.
+pub mod faults;
 mod lines;
+pub mod print;
 mod write;

@@ -1,13 +1,14 @@
 // Lines of a routine's text, written into a lent buffer.
 ghost use mathlib.Core.Path.{_≡_};
-ghost use mathlib.Core.List.{[], _∷_, _++_};
+ghost use mathlib.Core.List.{[], _∷_, _++_, map};
 ghost use Prim.Native.Nat.{_+_, _^_, _<_};
 ghost use lib.ListN.{length};
 ghost use lib.Seq.{sets};
 ghost use Rattle.fields.specs.Pieces.{joinedBy};
 ghost use Rattle.instructions.specs.Keywords.{spelled};
 ghost use Rattle.instructions.specs.Texts.{operandText, lineText};
-ghost use Rattle.grammar.specs.Texts.{ended, codeLines, initLines};
+ghost use Rattle.grammar.specs.Texts.{ended, codeLines, initLines, partyLines};
+ghost use Rattle.routine.specs.Parties.{codeOf};
 use crate::write::put;
 use crate::write::put_byte;
 use crate::write::put_operand;
@@ -16,6 +17,7 @@ use instructions::types::Init;
 use instructions::types::Instruction;
 use instructions::types::Line;
 use instructions::types::Operand;
+use routine::party::Party;
 
 // Writes a word alone, and ends the line.
 fn put_word(out: &mut [u8], at: usize, keyword: Keyword) -> usize
@@ -107,6 +109,19 @@ pub(crate) fn put_inits(out: &mut [u8], at: usize, inits: &[Init]) -> usize
     let mut place = at;
     for init in inits {
         place = put_init(out, place, *init);
+    }
+    place
+}
+
+// Writes the parties.
+pub(crate) fn put_parties(out: &mut [u8], at: usize, parties: &[Party]) -> usize
+    requires { ⌜ at + length (ended (partyLines (map codeOf (now parties)))) < 2 ^ 64 ⌝ }
+    ensures writes { λ _. ⌜ now (out .exit) ≡ sets (now (out .entry)) at (ended (partyLines (map codeOf (now (parties .entry))))) ⌝ }
+    ensures ends { λ r. ⌜ r ≡ at + length (ended (partyLines (map codeOf (now (parties .entry))))) ⌝ }
+{
+    let mut place = at;
+    for party in parties {
+        place = put_code(out, place, party.code());
     }
     place
 }
