@@ -1,0 +1,3 @@
+// What the programs print, as bytes of their inputs.
+pub mod faults;
+pub mod fences;
