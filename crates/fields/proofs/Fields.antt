@@ -10,11 +10,10 @@ use Rattle.std.proofs.shelf.Lists.{length-drop, length-take, length-take-le, dr
 use Rattle.std.proofs.shelf.Sums.{leading-le-length}
 use Rattle.std.proofs.shelf.Tests.{cond-true, cond-false}
 use Rattle.fields.specs.declared.reader.Reader.{Reader}
-use Rattle.fields.specs.declared.tokens.Token.{Token}
 use Rattle.fields.specs.Newlines.{newlines}
 use Rattle.fields.specs.Pieces.{pieces, other}
 use Rattle.fields.specs.Readers.{fieldsLeft, NextField}
-use Rattle.fields.specs.Tokens.{seen, seenOf, bytesOf, lineOf, placeOf, Stands}
+use Rattle.fields.specs.Tokens.{At}
 use Rattle.fields.proofs.Answered.{cut-line}
 use Rattle.fields.proofs.Cuts.{pieces-last}
 
@@ -27,45 +26,39 @@ stretch-past xs a b n h =
     let e : b - a ≡ (n + 1) + (b - (a + (n + 1))) = omega arith in
     ap (λ k. drop (n + 1) (take k (drop a xs))) e ∙ drop-take (n + 1) (b - (a + (n + 1))) (drop a xs) ∙ ap (take (b - (a + (n + 1)))) (drop-drop (n + 1) a xs)
 
-module _ (t : Token) (r s : Reader) (n : ℕ) where
-  stands : r .more ≡ true → n ≤ r .stop - r .place → bytesOf t ≡ take n (take (r .stop - r .place) (drop (r .place) (r .text .now))) → lineOf t ≡ r .line → placeOf t ≡ r .place → Stands (r .text .now) t
-  stands on le bytes line place =
-      let short : bytesOf t ≡ take n (drop (r .place) (r .text .now)) = bytes ∙ take-take n (r .stop - r .place) (drop (r .place) (r .text .now)) le in
-      let len : length (bytesOf t) ≡ n = ap length short ∙ length-take-le n (drop (r .place) (r .text .now)) (simp length-drop (omega (arith, r .«stop_within», r .«place_within»))) in
-      let numbered : suc (newlines (take (r .place) (r .text .now))) ≡ r .line = sym (cond-true _ _ _ on) ∙ r .numbered in
-      record {
-        bytes = short ∙ (λ i. take (sym len i) (drop (sym place i) (r .text .now)));
-        line = line ∙ sym numbered ∙ ap (λ p. suc (newlines (take p (r .text .now)))) (sym place) }
+module _ (r : Reader) (bytes : List ℕ) (n : ℕ) (on : r .more ≡ true) (cuts : bytes ≡ take (n - 0) (take (r .stop - r .place) (drop (r .place) (r .text .now)))) where
+  first : bytes ≡ take n (take (r .stop - r .place) (drop (r .place) (r .text .now)))
+  first = cuts ∙ ap (λ k. take k (take (r .stop - r .place) (drop (r .place) (r .text .now)))) (let e : n - 0 ≡ n = omega arith in e)
 
-module _ (t : Token) (r s : Reader) (n : ℕ) (on : r .more ≡ true) (lead : n ≡ leading (other 32) (take (r .stop - r .place) (drop (r .place) (r .text .now)))) where
-  pub next-field-more : n < length (take (r .stop - r .place) (drop (r .place) (r .text .now))) → seen t ≡ seenOf (take (n - 0) (take (r .stop - r .place) (drop (r .place) (r .text .now)))) → bytesOf t ≡ take (n - 0) (take (r .stop - r .place) (drop (r .place) (r .text .now))) → lineOf t ≡ r .line → placeOf t ≡ r .place → s .text .now ≡ r .text .now → s .line ≡ r .line → s .next ≡ r .next → s .place ≡ r .place + (n + 1) → s .stop ≡ r .stop → s .more ≡ r .more → NextField t r s
-  next-field-more some says bytes line place text same next on-place on-stop on-more =
+  stands : n ≤ r .stop - r .place → At (r .text .now) bytes (r .line) (r .place)
+  stands le =
+      let short : bytes ≡ take n (drop (r .place) (r .text .now)) = first ∙ take-take n (r .stop - r .place) (drop (r .place) (r .text .now)) le in
+      let len : length bytes ≡ n = ap length short ∙ length-take-le n (drop (r .place) (r .text .now)) (simp length-drop (omega (arith, r .«stop_within», r .«place_within»))) in
+      record {
+        own = short ∙ ap (λ k. take k (drop (r .place) (r .text .now))) (sym len);
+        counted = sym (sym (cond-true _ _ _ on) ∙ r .numbered) }
+
+module _ (r s : Reader) (bytes : List ℕ) (n : ℕ) (on : r .more ≡ true) (cuts : bytes ≡ take (n - 0) (take (r .stop - r .place) (drop (r .place) (r .text .now)))) (lead : n ≡ leading (other 32) (take (r .stop - r .place) (drop (r .place) (r .text .now)))) (text : s .text .now ≡ r .text .now) (line : s .line ≡ r .line) (next : s .next ≡ r .next) where
+  pub next-field-more : n < length (take (r .stop - r .place) (drop (r .place) (r .text .now))) → s .place ≡ r .place + (n + 1) → s .stop ≡ r .stop → s .more ≡ r .more → NextField bytes r s
+  next-field-more some on-place on-stop on-more =
       let len = stretch-length (r .text .now) (r .place) (r .stop) (r .«place_within») (r .«stop_within») in
-      let e : n - 0 ≡ n = omega arith in
-      let b : bytesOf t ≡ take n (take (r .stop - r .place) (drop (r .place) (r .text .now))) = bytes ∙ ap (λ k. take k (take (r .stop - r .place) (drop (r .place) (r .text .now)))) e in
       let left : fieldsLeft s ≡ pieces 32 (drop (n + 1) (take (r .stop - r .place) (drop (r .place) (r .text .now)))) =
             cond-true _ _ _ (on-more ∙ on) ∙ (λ i. pieces 32 (take (on-stop i - on-place i) (drop (on-place i) (text i)))) ∙ ap (pieces 32) (sym (stretch-past (r .text .now) (r .place) (r .stop) n (omega arith))) in
       record {
         text = text;
-        line = same;
+        line = line;
         next = next;
-        cut = cond-true _ _ _ on ∙ cut-line 32 _ n lead some ∙ (λ i. sym b i ∷ sym left i);
-        kind = says ∙ ap seenOf (sym bytes);
-        place = place;
-        stands = stands t r s n on (omega arith) b line place }
+        cut = cond-true _ _ _ on ∙ cut-line 32 _ n lead some ∙ (λ i. sym (first r bytes n on cuts) i ∷ sym left i);
+        stands = stands r bytes n on cuts (omega arith) }
 
-  pub next-field-last : length (take (r .stop - r .place) (drop (r .place) (r .text .now))) ≤ n → seen t ≡ seenOf (take (n - 0) (take (r .stop - r .place) (drop (r .place) (r .text .now)))) → bytesOf t ≡ take (n - 0) (take (r .stop - r .place) (drop (r .place) (r .text .now))) → lineOf t ≡ r .line → placeOf t ≡ r .place → s .text .now ≡ r .text .now → s .line ≡ r .line → s .next ≡ r .next → s .more ≡ false → NextField t r s
-  next-field-last none says bytes line place text same next off =
+  pub next-field-last : length (take (r .stop - r .place) (drop (r .place) (r .text .now))) ≤ n → s .more ≡ false → NextField bytes r s
+  next-field-last none off =
       let len = stretch-length (r .text .now) (r .place) (r .stop) (r .«place_within») (r .«stop_within») in
-      let e : n - 0 ≡ n = omega arith in
       let within = leading-le-length (other 32) (take (r .stop - r .place) (drop (r .place) (r .text .now))) in
-      let b : bytesOf t ≡ take n (take (r .stop - r .place) (drop (r .place) (r .text .now))) = bytes ∙ ap (λ k. take k (take (r .stop - r .place) (drop (r .place) (r .text .now)))) e in
       let whole = take-all n (take (r .stop - r .place) (drop (r .place) (r .text .now))) none in
       record {
         text = text;
-        line = same;
+        line = line;
         next = next;
-        cut = cond-true _ _ _ on ∙ pieces-last 32 _ (omega arith) ∙ (λ i. sym (b ∙ whole) i ∷ sym (cond-false (s .more) (pieces 32 (take (s .stop - s .place) (drop (s .place) (s .text .now)))) [] off) i);
-        kind = says ∙ ap seenOf (sym bytes);
-        place = place;
-        stands = stands t r s n on (omega arith) b line place }
+        cut = cond-true _ _ _ on ∙ pieces-last 32 _ (omega arith) ∙ (λ i. sym (first r bytes n on cuts ∙ whole) i ∷ sym (cond-false (s .more) (pieces 32 (take (s .stop - s .place) (drop (s .place) (s .text .now)))) [] off) i);
+        stands = stands r bytes n on cuts (omega arith) }

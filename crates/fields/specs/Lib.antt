@@ -6,4 +6,5 @@ pub mod Numerals
 pub mod Pieces
 pub mod Readers
 pub mod Registers
+pub mod Steps
 pub mod Tokens

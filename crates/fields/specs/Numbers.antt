@@ -2,7 +2,7 @@
 use mathlib.Core.Path.{_≡_}
 use mathlib.Core.Bool.{Bool, true, false, _&&_, not, cond}
 use mathlib.Core.List.{List, [], _∷_}
-use Prim.Native.Nat.{ℕ, _+_, _-_, _*_, _^_, _<_}
+use Prim.Native.Nat.{ℕ, _+_, _-_, _*_, _^_, _<_, min}
 use lib.Dec.{leb, eqb}
 use Rattle.std.specs.Written.{decimal}
 use Rattle.std.specs.Text.{asciiDigit}
@@ -22,6 +22,10 @@ abbrev pub isNumeral : List ℕ → Bool
 isNumeral [] = false
 isNumeral (c ∷ []) = asciiDigit c
 isNumeral (c ∷ (d ∷ ds)) = not (eqb c 48) && allDigits (c ∷ (d ∷ ds))
+
+-- n, but 2^32 where it is that or more
+abbrev pub capped : ℕ → ℕ
+capped n = min n 4294967296
 
 -- n, where it is at most max
 abbrev pub upTo : ℕ → ℕ → Option ℕ

@@ -2,8 +2,8 @@
 use mathlib.Core.Path.{_≡_}
 use mathlib.Core.Bool.{Bool, true, cond}
 use mathlib.Core.List.{List, [], _∷_}
-use Prim.Native.Nat.{ℕ, suc, _+_, _-_}
-use lib.ListN.{length, take, drop}
+use Prim.Native.Nat.{ℕ, suc, _-_}
+use lib.ListN.{take, drop}
 use Rattle.std.specs.Orderings.{When}
 use Rattle.std.specs.declared.option.Option.{Option}
 use Rattle.std.specs.declared.option.Option.the-variants.{Some, None}
@@ -13,7 +13,7 @@ use Rattle.fields.specs.declared.faults.FieldFault.{FieldFault}
 use Rattle.fields.specs.declared.reader.Reader.{Reader}
 use Rattle.fields.specs.declared.tokens.Token.{Token}
 use Rattle.fields.specs.Pieces.{pieces}
-use Rattle.fields.specs.Tokens.{Stands, seen, seenOf, bytesOf, placeOf}
+use Rattle.fields.specs.Tokens.{At, seen, seenOf, bytesOf, lineOf, placeOf}
 
 -- the pieces between bytes 10 after the current line
 abbrev pub linesLeft : Reader → List (List ℕ)
@@ -37,17 +37,22 @@ abbrev pub AfterLine : Result Bool FieldFault → Reader → Reader → Type 0
 AfterLine (Ok b) r s = When b (NextLine r s) (s ≡ r)
 AfterLine (Err e) r s = s ≡ r
 
--- s is r after its field t
-pub record NextField (t : Token) (r s : Reader) : Type 0 where
+-- s is r after its next field
+pub record NextField (bytes : List ℕ) (r s : Reader) : Type 0 where
   pub text : s .text .now ≡ r .text .now
   pub line : s .line ≡ r .line
   pub next : s .next ≡ r .next
-  pub cut : fieldsLeft r ≡ bytesOf t ∷ fieldsLeft s
+  pub cut : fieldsLeft r ≡ bytes ∷ fieldsLeft s
+  pub stands : At (r .text .now) bytes (r .line) (r .place)
+
+-- a token says what its field is and where it stands
+pub record TokenOf (t : Token) (r : Reader) : Type 0 where
   pub kind : seen t ≡ seenOf (bytesOf t)
+  pub line : lineOf t ≡ r .line
   pub place : placeOf t ≡ r .place
-  pub stands : Stands (r .text .now) t
+  pub stands : At (r .text .now) (bytesOf t) (lineOf t) (placeOf t)
 
 -- after the answer to a call for the next field
 abbrev pub AfterField : Option Token → Reader → Reader → Type 0
 AfterField None r s = (fieldsLeft r ≡ []) × (s ≡ r)
-AfterField (Some t) r s = NextField t r s
+AfterField (Some t) r s = NextField (bytesOf t) r s × TokenOf t r

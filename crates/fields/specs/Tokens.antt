@@ -1,9 +1,10 @@
 -- What a field is, and where its token stands.
 use mathlib.Core.Path.{_≡_}
-use mathlib.Core.Bool.{cond}
+use mathlib.Core.Bool.{Bool, false, cond}
 use mathlib.Core.List.{List, [], _∷_}
 use Prim.Native.Nat.{ℕ, suc}
 use lib.ListN.{length, take, drop}
+use Rattle.std.specs.shelf.Text.{sameBytes}
 use Rattle.std.specs.declared.option.Option.{Option}
 use Rattle.std.specs.declared.option.Option.the-variants.{Some, None}
 use Rattle.fields.specs.declared.registers.Register.{Register}
@@ -47,7 +48,13 @@ seenBy None bs = cond (isNumeral bs) (number bs) (word bs)
 abbrev pub seenOf : List ℕ → Seen
 seenOf bs = seenBy (registerOf bs) bs
 
--- a token's bytes are the text's own from its place on, and its line is one more than the bytes 10 before it
-pub record Stands (text : List ℕ) (t : Token) : Type 0 where
-  pub bytes : bytesOf t ≡ take (length (bytesOf t)) (drop (placeOf t) text)
-  pub line : lineOf t ≡ suc (newlines (take (placeOf t) text))
+-- whether a field is that word
+abbrev pub isWord : Seen → List ℕ → Bool
+isWord (word bs) w = sameBytes bs w
+isWord (register r) w = false
+isWord (number ds) w = false
+
+-- the bytes are the text's own from that place on, and the line is one more than the bytes 10 before it
+pub record At (text bytes : List ℕ) (line place : ℕ) : Type 0 where
+  pub own : bytes ≡ take (length bytes) (drop place text)
+  pub counted : line ≡ suc (newlines (take place text))

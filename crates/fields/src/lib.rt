@@ -5,4 +5,3 @@ pub mod numeral;
 pub mod reader;
 pub mod registers;
 pub mod tokens;
-pub mod words;

@@ -8,6 +8,7 @@ ghost use Rattle.fields.specs.Newlines.{newlines};
 
 mod next_field;
 mod next_line;
+mod start;
 
 #[derive(Drop)]
 pub struct Reader<'a> {
@@ -23,6 +24,7 @@ pub struct Reader<'a> {
     // Whether a field of the current line is left.
     more: bool,
     ghost next_within: { next ≤ length (now text) },
+    ghost few_lines: { line ≤ next },
     ghost stop_within: { stop ≤ length (now text) },
     ghost place_within: { place ≤ stop },
     ghost counted: { line ≡ newlines (take next (now text)) },

@@ -1,6 +1,7 @@
 // A field, by its kind: it lends its bytes from the text and says where they stand.
 ghost use mathlib.Core.Path.{_≡_};
-ghost use Rattle.fields.specs.Tokens.{seen, seenOf, bytesOf, lineOf, placeOf};
+ghost use Rattle.std.specs.shelf.Text.{sameBytes};
+ghost use Rattle.fields.specs.Tokens.{seen, seenOf, bytesOf, lineOf, placeOf, isWord};
 use crate::numbers::is_numeral;
 use crate::registers::Register;
 
@@ -27,4 +28,20 @@ impl<'a> Token<'a> {
         }
         Token::Word { text: field, line, place }
     }
+
+    // Whether the token is the word, byte for byte.
+    pub fn is_word(&self, word: &[u8]) -> bool
+        ensures { λ r. ⌜ r ≡ isWord (seen (now (self .entry))) (now (word .entry)) ⌝ }
+    {
+        match self {
+            Token::Word { text, .. } => same_bytes(text, word),
+            _ => false,
+        }
+    }
+}
+
+fn same_bytes(text: &[u8], word: &[u8]) -> bool
+    ensures { λ r. ⌜ r ≡ sameBytes (now (text .entry)) (now (word .entry)) ⌝ }
+{
+    text == word
 }

@@ -6,6 +6,7 @@ use lib.Chars.{codes}
 use Rattle.std.specs.shelf.Text.{sameBytes}
 use Rattle.std.specs.declared.option.Option.{Option}
 use Rattle.std.specs.declared.option.Option.the-variants.{Some, None}
+use Rattle.fields.specs.Tokens.{Seen, word, register, number}
 use Rattle.instructions.specs.declared.keyword.Keyword.{Keyword}
 use Rattle.instructions.specs.declared.keyword.Keyword.the-variants.{Init, Party, End, Load, Store, Exchange, Fence, Nop, Set, Add, JumpNonzero, Jump}
 use Rattle.instructions.specs.declared.types.Stage.{Stage}
@@ -35,6 +36,12 @@ keywordIn (k ∷ ks) bs = cond (sameBytes bs (spelled k)) (Some k) (keywordIn ks
 -- the keyword that the bytes spell
 abbrev pub keywordOf : List ℕ → Option Keyword
 keywordOf bs = keywordIn everyKeyword bs
+
+-- the keyword that a field is
+abbrev pub keywordSeen : Seen → Option Keyword
+keywordSeen (word bs) = keywordOf bs
+keywordSeen (register r) = None
+keywordSeen (number ds) = None
 
 -- INIT lines stand before any party, PARTY outside of one, and all others inside
 abbrev pub mayStand : Stage → Keyword → Bool

@@ -13,7 +13,7 @@ use Rattle.fields.specs.declared.reader.Reader.{Reader}
 use Rattle.fields.specs.Lines.{lineAnswer}
 use Rattle.fields.specs.Pieces.{pieces}
 use Rattle.fields.specs.Readers.{linesLeft, fieldsLeft}
-use Rattle.fields.specs.Tokens.{Seen, word, register, number, seenOf}
+use Rattle.fields.specs.Tokens.{Seen, seenOf}
 use Rattle.instructions.specs.declared.faults.LineFault.{LineFault}
 use Rattle.instructions.specs.declared.faults.LineFault.the-variants.{Field, Word, Count, Kind, Range}
 use Rattle.instructions.specs.declared.keyword.Keyword.{Keyword}
@@ -24,7 +24,7 @@ use Rattle.instructions.specs.declared.types.Line.{Line}
 use Rattle.instructions.specs.declared.types.Line.the-variants as line
 use Rattle.instructions.specs.declared.types.Stage.{Stage}
 use Rattle.instructions.specs.Arguments.{Given, givenBy, ofNone, ofOne, ofTwo, isRegister, isNumber, isOperand, registerIn, numberIn, operandIn}
-use Rattle.instructions.specs.Keywords.{keywordOf, mayStand}
+use Rattle.instructions.specs.Keywords.{keywordSeen, mayStand}
 
 abbrev pub Said : Type 0
 Said = Result Line LineFault
@@ -54,9 +54,7 @@ here stage (Some k) = cond (mayStand stage k) (Some k) None
 
 -- the keyword that the first field is, where it may stand there
 abbrev pub keywordHere : Stage → Seen → Option Keyword
-keywordHere stage (word bs) = here stage (keywordOf bs)
-keywordHere stage (register r) = None
-keywordHere stage (number ds) = None
+keywordHere stage s = here stage (keywordSeen s)
 
 abbrev pub saidBy : Option Keyword → Given → ℕ → Said
 saidBy None g n = Err (Word n)

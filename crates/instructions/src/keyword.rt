@@ -1,9 +1,9 @@
 // The words that a line may begin with.
 ghost use mathlib.Core.Path.{_≡_};
-ghost use mathlib.Core.Bool.{Bool};
-ghost use Rattle.instructions.specs.Keywords.{spelled, keywordOf, mayStand};
+ghost use Rattle.fields.specs.Tokens.{seen};
+ghost use Rattle.instructions.specs.Keywords.{spelled, keywordSeen, mayStand};
 use crate::types::Stage;
-use fields::words::is_word;
+use fields::tokens::Token;
 
 #[derive(Clone, Copy, Debug, PartialEq, Eq)]
 pub enum Keyword {
@@ -57,12 +57,12 @@ impl Keyword {
         }
     }
 
-    // The keyword that a field spells.
-    pub(crate) fn spelled_by(field: &[u8]) -> Option<Keyword>
-        ensures { λ r. ⌜ r ≡ keywordOf (now (field .entry)) ⌝ }
+    // The keyword that a field is.
+    pub(crate) fn of(field: Token) -> Option<Keyword>
+        ensures { λ r. ⌜ r ≡ keywordSeen (seen (field .entry)) ⌝ }
     {
         for keyword in KEYWORDS {
-            if is_word(field, keyword.spelling()) {
+            if field.is_word(keyword.spelling()) {
                 return Some(keyword);
             }
         }

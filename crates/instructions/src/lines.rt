@@ -47,10 +47,7 @@ fn arguments<'a>(reader: &mut Reader<'a>) -> Arguments<'a>
 fn keyword_here(first: Token, stage: Stage) -> Option<Keyword>
     ensures { λ r. ⌜ r ≡ keywordHere stage (seen (first .entry)) ⌝ }
 {
-    let Token::Word { text, .. } = first else {
-        return None;
-    };
-    let keyword = Keyword::spelled_by(text)?;
+    let keyword = Keyword::of(first)?;
     if keyword.may_stand(stage) { Some(keyword) } else { None }
 }
 

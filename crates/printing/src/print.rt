@@ -1,7 +1,8 @@
 // A whole routine into a lent buffer.
 ghost use mathlib.Core.Path.{_≡_};
 ghost use Prim.Native.Nat.{_≤_};
-ghost use lib.ListN.{length};
+ghost use mathlib.Core.List.{_++_};
+ghost use lib.ListN.{length, drop};
 ghost use lib.Seq.{sets};
 ghost use Rattle.std.specs.Vec.{refused};
 ghost use Rattle.std.specs.declared.result.Result.the-variants.{Ok};
@@ -24,6 +25,23 @@ fn put_routine(out: &mut [u8], routine: &Routine) -> usize
     put_parties(out, place, routine.parties())
 }
 
+// How long the text is: it is written into an empty buffer.
+fn text_length(routine: &Routine) -> usize
+    ensures is { λ r. ⌜ r ≡ length (textOf (listing (now (routine .entry)))) ⌝ }
+    ensures reads_back { λ _. ⌜ readOf (textOf (listing (now (routine .entry)))) ≡ Ok (listing (now (routine .entry))) ⌝ }
+    ensures bound { λ _. ⌜ length (textOf (listing (now (routine .entry)))) ≤ 2952 ⌝ }
+{
+    put_routine(&mut [], routine)
+}
+
+// Writes the text into a buffer that has room for it.
+fn put_text(out: &mut [u8], routine: &Routine)
+    requires { ⌜ length (textOf (listing (now routine))) ≤ length (now out) ⌝ }
+    ensures { λ _. ⌜ now (out .exit) ≡ textOf (listing (now (routine .entry))) ++ drop (length (textOf (listing (now (routine .entry))))) (now (out .entry)) ⌝ }
+{
+    put_routine(out, routine);
+}
+
 // Prints the routine: the length of its text. The bytes after the text stay; a buffer that is too short stays whole.
 pub fn print(routine: &Routine, out: &mut [u8]) -> Result<usize, PrintFault>
     ensures answer { λ r. ⌜ r ≡ printAnswer (textOf (listing (now (routine .entry)))) (length (now (out .entry))) ⌝ }
@@ -32,9 +50,10 @@ pub fn print(routine: &Routine, out: &mut [u8]) -> Result<usize, PrintFault>
     ensures reads_back { λ _. ⌜ readOf (textOf (listing (now (routine .entry)))) ≡ Ok (listing (now (routine .entry))) ⌝ }
     ensures bound { λ _. ⌜ length (textOf (listing (now (routine .entry)))) ≤ 2952 ⌝ }
 {
-    let needed = put_routine(&mut [], routine);
+    let needed = text_length(routine);
     if out.len() < needed {
         return Err(PrintFault::Short { needed });
     }
-    Ok(put_routine(out, routine))
+    put_text(out, routine);
+    Ok(needed)
 }

@@ -1,6 +1,5 @@
--- What printing left in a buffer, and what reading answered.
-use mathlib.Core.Path.{_≡_, refl, sym, ap, _∙_}
-use mathlib.Core.Bool.{Bool, true, false, cond}
+-- What printing left in a buffer.
+use mathlib.Core.Path.{_≡_, ap, _∙_}
 use mathlib.Core.List.{List, _++_}
 use Prim.Native.Nat.{ℕ, _-_, _≤_}
 use native.Mathlib.Omega.{arith}
@@ -8,12 +7,9 @@ use lib.ListN.{length, take, drop}
 use Rattle.std.proofs.shelf.Lists.{take-at}
 use Rattle.std.proofs.shelf.Tests.{cond-true, le-leb}
 use Rattle.std.specs.declared.result.Result.{Result}
-use Rattle.std.specs.declared.result.Result.the-variants.{Ok, Err}
-use Rattle.grammar.specs.Listings.{Listing}
-use Rattle.grammar.specs.declared.faults.RoutineFault.{RoutineFault}
+use Rattle.std.specs.declared.result.Result.the-variants.{Ok}
 use Rattle.printing.specs.Prints.{printAnswer, printedOver}
 use Rattle.printing.specs.declared.faults.PrintFault.{PrintFault}
-use Rattle.routine.specs.Storages.{ended}
 
 same-ok : (m n : ℕ) → _≡_ {A = Result ℕ PrintFault} (Ok m) (Ok n) → m ≡ n
 same-ok m n e = cc
@@ -25,8 +21,3 @@ printed-part text out len after fits answer leaves =
     let n = same-ok len (length text) (answer ∙ cond-true _ _ _ t) in
     let z : length text ≡ len - 0 = omega (arith, n) in
     ap (take (len - 0)) (leaves ∙ cond-true _ _ _ t) ∙ take-at text (drop (length text) out) (len - 0) z
-
--- the fault that was answered is that of the definition
-pub fault-of : (s : Result Listing RoutineFault) (e : RoutineFault) → Err e ≡ ended s → s ≡ Err e
-fault-of (Ok l) e h = let z : _≡_ {A = ℕ} 0 1 = cc in absurd (omega arith)
-fault-of (Err d) e h = cc

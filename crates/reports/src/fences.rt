@@ -5,6 +5,7 @@ ghost use Rattle.std.specs.Of.String.{string-bytes};
 ghost use Rattle.std.specs.Of.Vec.{vec-items};
 ghost use Rattle.std.specs.Results.{Cases};
 ghost use Rattle.std.specs.Vec.{made};
+ghost use Rattle.grammar.specs.Faults.{routineCode};
 ghost use Rattle.grammar.specs.Texts.{textOf};
 ghost use Rattle.routine.specs.Parties.{codeOf};
 ghost use Rattle.routine.specs.Routines.{listing};
@@ -13,6 +14,7 @@ ghost use Rattle.reports.specs.declared.faults.ReportFault.{ReportFault};
 use crate::faults::ReportFault;
 use crate::faults::ReportFromAlloc;
 use fields::faults::FaultCode;
+use grammar::faults::RoutineFault;
 use instructions::types::Instruction;
 use printing::print::print;
 use routine::fresh::Fresh;
@@ -31,6 +33,13 @@ fn fault_line(heap: Global, code: FaultCode) -> Result<String, AllocError>
     let layer = code.layer;
     let line = code.line;
     format!(heap, "FAULT {number} {layer} {line}\n")
+}
+
+fn fault_report(heap: Global, fault: RoutineFault) -> Result<Vec<u8>, AllocError>
+    ensures { λ r. ⌜ made r (λ v. vec-items v ≡ faultLine (routineCode fault)) ⌝ }
+{
+    let line = fault_line(heap, fault.code())?;
+    Ok(line.into_bytes())
 }
 
 fn fence_line(heap: Global, party: usize, count: usize) -> Result<String, AllocError>
@@ -101,6 +110,6 @@ pub fn fences(heap: Global, text: &[u8]) -> Result<Vec<u8>, ReportFault>
     };
     match read(text, &mut fresh) {
         Ok(()) => Ok(routine_report(heap, fresh.routine())?),
-        Err(fault) => Ok(fault_line(heap, fault.code())?.into_bytes()),
+        Err(fault) => Ok(fault_report(heap, fault)?),
     }
 }

@@ -1,5 +1,5 @@
 -- Lines that are read one by one.
-use mathlib.Core.Path.{_≡_, refl, sym, ap, subst, _∙_}
+use mathlib.Core.Path.{_≡_, refl, sym, ap, _∙_}
 use mathlib.Core.Bool.{Bool, true, false}
 use mathlib.Core.List.{List}
 use Prim.Native.Nat.{ℕ}
@@ -24,7 +24,7 @@ use Rattle.grammar.proofs.Exactly.{reads-exactly, read-is-written}
 use Rattle.grammar.proofs.LinesOnly.{lines-read-as-written}
 use Rattle.routine.specs.Addresses.{notedList}
 use Rattle.routine.specs.Drafts.{Holds, ReadInto}
-use Rattle.routine.specs.Fresh.{freshListing, AfterRead, ByGrammar}
+use Rattle.routine.specs.Fresh.{freshListing, ByGrammar}
 use Rattle.routine.specs.Storages.{listingOf}
 use Rattle.routine.specs.declared.draft.Draft.{Draft}
 use Rattle.routine.specs.declared.fresh.Fresh.{Fresh}
@@ -67,16 +67,10 @@ read-err (Err f) e d h = cc
 pub held : (text : List ℕ) (l : Listing) (d : Draft) → readOf text ≡ Ok l → Holds l d → (lawful (listingOf (d .storage)) ≡ true) × ((notedList (d .storage .addresses) ≡ addressesOf (listingOf (d .storage))) × (outside (d .stage) ≡ true))
 held text l d e h = (ap lawful (h .listing) ∙ read-is-written text l e .1, (h .addresses ∙ ap addressesOf (sym (h .listing)), h .closed))
 
-pub refused-after : (text : List ℕ) (e : RoutineFault) (f g : Fresh) → readOf text ≡ Err e → g .routine ≡ f .routine → AfterRead (readOf text) f g
-refused-after text e f g h same = subst (λ s. AfterRead s f g) (sym h) same
-
 pub refused-grammar : (text : List ℕ) (e : RoutineFault) (g : Fresh) → readOf text ≡ Err e → ByGrammar text (Err e) g
 refused-grammar text e g h = record {
     only = λ r. absurd (err-ok e r);
     each = λ l spells law. absurd (ok-err l e (sym (reads-exactly text l .1 spells law) ∙ h)) }
-
-pub accepted-after : (text : List ℕ) (l : Listing) (f g : Fresh) → readOf text ≡ Ok l → freshListing g ≡ l → AfterRead (readOf text) f g
-accepted-after text l f g h is = subst (λ s. AfterRead s f g) (sym h) is
 
 same-ok : (k l : Listing) → _≡_ {A = Result Listing RoutineFault} (Ok k) (Ok l) → k ≡ l
 same-ok k l e = cc

@@ -15,11 +15,6 @@ use Rattle.routine.specs.declared.fresh.Fresh.{Fresh}
 abbrev pub freshListing : Fresh → Listing
 freshListing f = listing (f .routine)
 
--- the routine that was read, or the very routine that was there
-abbrev pub AfterRead : Result Listing RoutineFault → Fresh → Fresh → Type 0
-AfterRead (Ok l) f g = freshListing g ≡ l
-AfterRead (Err e) f g = g .routine ≡ f .routine
-
 -- a text is accepted exactly where it spells a lawful routine, and that routine is given;
 -- it is then what is written of the routine
 pub record ByGrammar (text : List ℕ) (r : Result (Unit {0}) RoutineFault) (g : Fresh) : Type 0 where

@@ -6,11 +6,9 @@ ghost use Rattle.fields.specs.Numbers.{Written-reads-back, Read-is-written};
 use crate::numeral::Numeral;
 
 impl Numeral {
-    // The digits of n, and that numbers are read as they are written.
-    pub fn of(n: u32) -> Numeral
-        ensures figures { λ r. ⌜ figures r ≡ decimal n ⌝ }
-        ensures reads_back { λ _. ⌜ Written-reads-back ⌝ }
-        ensures only_written { λ _. ⌜ Read-is-written ⌝ }
+    // The digits of n, from the last one on.
+    fn spell(n: u32) -> Numeral
+        ensures { λ r. ⌜ figures r ≡ decimal n ⌝ }
     {
         let mut digits = [b'0'; 10];
         let mut start = 10;
@@ -25,9 +23,25 @@ impl Numeral {
         Numeral { digits, start }
     }
 
+    // How n is written.
+    pub fn of(n: u32) -> Numeral
+        ensures { λ r. ⌜ figures r ≡ decimal n ⌝ }
+    {
+        Numeral::spell(n)
+    }
+
     pub fn bytes(&self) -> &[u8]
         ensures { λ r. ⌜ now r ≡ figures (now (self .entry)) ⌝ }
     {
-        &self.digits[self.start..]
+        let (_, figures) = self.digits.split_at(self.start);
+        figures
     }
+}
+
+// Numbers are read as they are written.
+pub fn numbers_stand() -> u8
+    ensures back { λ _. ⌜ Written-reads-back ⌝ }
+    ensures only { λ _. ⌜ Read-is-written ⌝ }
+{
+    0
 }

@@ -1,14 +1,15 @@
 // The next field of the current line.
 ghost use mathlib.Core.Path.{_≡_};
 ghost use Rattle.fields.specs.Readers.{AfterField};
+ghost use Rattle.fields.specs.Steps.{AfterCut};
 use crate::reader::Reader;
 use crate::reader::next_line::run_to;
 use crate::tokens::Token;
 
 impl<'a> Reader<'a> {
-    // The next field of the current line, or None after its last.
-    pub fn next_field(&mut self) -> Option<Token<'a>>
-        ensures { λ r. ⌜ AfterField r (now (self .entry)) (now (self .exit)) ⌝ }
+    // The bytes of the next field.
+    fn cut_field(&mut self) -> Option<&'a [u8]>
+        ensures { λ r. ⌜ AfterCut r (now (self .entry)) (now (self .exit)) ⌝ }
     {
         if !self.more {
             return None;
@@ -16,13 +17,22 @@ impl<'a> Reader<'a> {
         let text = self.text;
         let rest = &text[self.place..self.stop];
         let n = run_to(rest, b' ');
-        let field = Token::of(&rest[0..n], self.line, self.place);
         if n < rest.len() {
             self.place += n + 1;
         } else {
             self.place = self.stop;
             self.more = false;
         }
-        Some(field)
+        Some(&rest[0..n])
+    }
+
+    // The next field of the current line, or None after its last.
+    pub fn next_field(&mut self) -> Option<Token<'a>>
+        ensures { λ r. ⌜ AfterField r (now (self .entry)) (now (self .exit)) ⌝ }
+    {
+        let line = self.line;
+        let place = self.place;
+        let field = self.cut_field()?;
+        Some(Token::of(field, line, place))
     }
 }

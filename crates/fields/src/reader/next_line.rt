@@ -1,12 +1,12 @@
 // The next line, if it is made of fields.
 ghost use mathlib.Core.Path.{_≡_};
-ghost use mathlib.Core.Bool.{false};
 ghost use Prim.Native.Nat.{suc, _≤_};
 ghost use lib.ListN.{length};
 ghost use Rattle.std.specs.shelf.Lists.{leading};
 ghost use Rattle.fields.specs.Pieces.{pieces, other};
 ghost use Rattle.fields.specs.Lines.{printable, allPrintable, allSome, lineChecked, lineAnswer};
-ghost use Rattle.fields.specs.Readers.{linesLeft, AfterLine};
+ghost use Rattle.fields.specs.Readers.{linesLeft, NextLine, AfterLine};
+ghost use Rattle.fields.specs.Steps.{LiesAhead, LineFits, LineOf};
 use crate::faults::FieldFault;
 use crate::reader::Reader;
 
@@ -66,19 +66,43 @@ fn check_line(bytes: &[u8], line: usize) -> Result<(), FieldFault>
     Ok(())
 }
 
+// What stands before the next byte 10.
+enum Ahead<'a> {
+    // The text ends here.
+    End,
+    // A line that no byte 10 ends.
+    Unended,
+    Line(&'a [u8]),
+}
+
 impl<'a> Reader<'a> {
-    // A reader before the first line.
-    pub fn new(text: &'a [u8]) -> Reader<'a>
-        ensures { λ r. ⌜ r .text .now ≡ now (text .entry) ⌝ ∗ ⌜ linesLeft r ≡ pieces 10 (now (text .entry)) ⌝ ∗ ⌜ r .line ≡ 0 ⌝ ∗ ⌜ r .more ≡ false ⌝ }
+    // What comes after the current line.
+    fn ahead(&self) -> Ahead<'a>
+        ensures is { λ r. ⌜ LiesAhead r (linesLeft (now (self .entry))) ⌝ }
+        ensures room { λ r. ⌜ LineFits r (now (self .entry)) ⌝ }
     {
-        Reader { text, next: 0, line: 0, place: 0, stop: 0, more: false }
+        let text = self.text;
+        let rest = &text[self.next..];
+        if rest.is_empty() {
+            return Ahead::End;
+        }
+        let n = run_to(rest, b'\n');
+        if n == rest.len() {
+            return Ahead::Unended;
+        }
+        Ahead::Line(&rest[0..n])
     }
 
-    // The number of the current line.
-    pub fn line(&self) -> usize
-        ensures { λ r. ⌜ r ≡ now (self .entry) .line ⌝ }
+    // Goes on to the line ahead, which has that many bytes.
+    fn enter(&mut self, len: usize)
+        requires { ⌜ LineOf (now self) len ⌝ }
+        ensures { λ _. ⌜ NextLine (now (self .entry)) (now (self .exit)) ⌝ }
     {
-        self.line
+        self.line += 1;
+        self.place = self.next;
+        self.stop = self.next + len;
+        self.next = self.stop + 1;
+        self.more = true;
     }
 
     // Goes to the next line: whether there is one, or why it is not made of fields.
@@ -86,22 +110,15 @@ impl<'a> Reader<'a> {
         ensures answer { λ r. ⌜ r ≡ lineAnswer (linesLeft (now (self .entry))) (suc (now (self .entry) .line)) ⌝ }
         ensures after { λ r. ⌜ AfterLine r (now (self .entry)) (now (self .exit)) ⌝ }
     {
-        let text = self.text;
-        let rest = &text[self.next..];
-        if rest.is_empty() {
-            return Ok(false);
-        }
         let line = self.line + 1;
-        let n = run_to(rest, b'\n');
-        if n == rest.len() {
-            return Err(FieldFault::Bytes { line });
+        match self.ahead() {
+            Ahead::End => Ok(false),
+            Ahead::Unended => Err(FieldFault::Bytes { line }),
+            Ahead::Line(bytes) => {
+                check_line(bytes, line)?;
+                self.enter(bytes.len());
+                Ok(true)
+            }
         }
-        check_line(&rest[0..n], line)?;
-        self.line = line;
-        self.place = self.next;
-        self.stop = self.next + n;
-        self.next = self.stop + 1;
-        self.more = true;
-        Ok(true)
     }
 }
