@@ -73,9 +73,10 @@ numeral-some (c ∷ ds) e = omega arith
 
 pub written-reads-back : Written-reads-back
 written-reads-back n h = (
-    numeral-from (decimal n) (digits-decimal own n h) (decimal-some n h)
-    (λ z. ⊎-elim (λ pos. absurd (omega (arith, first-decimal n pos h, eqb-true _ _ z))) (λ none. ap length (decimal-digit n (omega arith))) (cases-lt 0 n)),
-    value-decimal own n h)
+  numeral-from (decimal n) (digits-decimal own n h) (decimal-some n h)
+      (λ z. ⊎-elim (λ pos. absurd (omega (arith, first-decimal n pos h, eqb-true _ _ z))) (λ none. ap length (decimal-digit n (omega arith))) (cases-lt 0 n)),
+  value-decimal own n h,
+)
 
 pub read-is-written : Read-is-written
 read-is-written ds e h = sym (decimal-value own ds (numeral-digits ds e) (numeral-some ds e) (numeral-first ds e) h)

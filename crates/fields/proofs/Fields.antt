@@ -36,20 +36,22 @@ module _ (r : Reader) (bytes : List ℕ) (n : ℕ) (on : r .more ≡ true) (cuts
       let len : length bytes ≡ n = ap length short ∙ length-take-le n (drop (r .place) (r .text .now)) (simp length-drop (omega (arith, r .«stop_within», r .«place_within»))) in
       record {
         own = short ∙ ap (λ k. take k (drop (r .place) (r .text .now))) (sym len);
-        counted = sym (sym (cond-true _ _ _ on) ∙ r .numbered) }
+        counted = sym (sym (cond-true _ _ _ on) ∙ r .numbered);
+      }
 
 module _ (r s : Reader) (bytes : List ℕ) (n : ℕ) (on : r .more ≡ true) (cuts : bytes ≡ take (n - 0) (take (r .stop - r .place) (drop (r .place) (r .text .now)))) (lead : n ≡ leading (other 32) (take (r .stop - r .place) (drop (r .place) (r .text .now)))) (text : s .text .now ≡ r .text .now) (line : s .line ≡ r .line) (next : s .next ≡ r .next) where
   pub next-field-more : n < length (take (r .stop - r .place) (drop (r .place) (r .text .now))) → s .place ≡ r .place + (n + 1) → s .stop ≡ r .stop → s .more ≡ r .more → NextField bytes r s
   next-field-more some on-place on-stop on-more =
       let len = stretch-length (r .text .now) (r .place) (r .stop) (r .«place_within») (r .«stop_within») in
       let left : fieldsLeft s ≡ pieces 32 (drop (n + 1) (take (r .stop - r .place) (drop (r .place) (r .text .now)))) =
-            cond-true _ _ _ (on-more ∙ on) ∙ (λ i. pieces 32 (take (on-stop i - on-place i) (drop (on-place i) (text i)))) ∙ ap (pieces 32) (sym (stretch-past (r .text .now) (r .place) (r .stop) n (omega arith))) in
+      cond-true _ _ _ (on-more ∙ on) ∙ (λ i. pieces 32 (take (on-stop i - on-place i) (drop (on-place i) (text i)))) ∙ ap (pieces 32) (sym (stretch-past (r .text .now) (r .place) (r .stop) n (omega arith))) in
       record {
         text = text;
         line = line;
         next = next;
         cut = cond-true _ _ _ on ∙ cut-line 32 _ n lead some ∙ (λ i. sym (first r bytes n on cuts) i ∷ sym left i);
-        stands = stands r bytes n on cuts (omega arith) }
+        stands = stands r bytes n on cuts (omega arith);
+      }
 
   pub next-field-last : length (take (r .stop - r .place) (drop (r .place) (r .text .now))) ≤ n → s .more ≡ false → NextField bytes r s
   next-field-last none off =
@@ -61,4 +63,5 @@ module _ (r s : Reader) (bytes : List ℕ) (n : ℕ) (on : r .more ≡ true) (cu
         line = line;
         next = next;
         cut = cond-true _ _ _ on ∙ pieces-last 32 _ (omega arith) ∙ (λ i. sym (first r bytes n on cuts ∙ whole) i ∷ sym (cond-false (s .more) (pieces 32 (take (s .stop - s .place) (drop (s .place) (s .text .now)))) [] off) i);
-        stands = stands r bytes n on cuts (omega arith) }
+        stands = stands r bytes n on cuts (omega arith);
+      }

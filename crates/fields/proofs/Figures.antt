@@ -25,6 +25,8 @@ last-figure rest start digits n small fits low is =
 pub more-figures : (rest start : ℕ) (digits : List ℕ) (n : ℕ) → 10 ≤ rest → rest < 2 ^ 32 → length (decimal rest) ≤ start → start ≤ length digits → decimal rest ++ drop start digits ≡ decimal n → (decimal (rest / 10) ++ drop (start - 1) (set digits (start - 1) (48 + rest % 10)) ≡ decimal n) × (length (decimal (rest / 10)) ≤ start - 1) × (rest / 10 < 2 ^ 32)
 more-figures rest start digits n big small fits low is =
     let step = decimal-step rest big (omega arith) in
-    let len : length (decimal rest) ≡ length (decimal (rest / 10)) + 1 = ap length step ∙ length-append (decimal (rest / 10)) ((48 + rest % 10) ∷ []) in
-    (ap (λ ds. decimal (rest / 10) ++ ds) (drop-set-before digits start (48 + rest % 10) (omega arith) low) ∙ sym (append-assoc (decimal (rest / 10)) ((48 + rest % 10) ∷ []) (drop start digits)) ∙ sym (ap (λ ds. ds ++ drop start digits) step) ∙ is,
-     omega arith, omega arith)
+    let len : length (decimal rest) ≡ length (decimal (rest / 10)) + 1 = ap length step ∙ length-append (decimal (rest / 10)) ((48 + rest % 10) ∷ []) in (
+      ap (λ ds. decimal (rest / 10) ++ ds) (drop-set-before digits start (48 + rest % 10) (omega arith) low) ∙ sym (append-assoc (decimal (rest / 10)) ((48 + rest % 10) ∷ []) (drop start digits)) ∙ sym (ap (λ ds. ds ++ drop start digits) step) ∙ is,
+      omega arith,
+      omega arith,
+    )

@@ -22,9 +22,14 @@ impl FieldFault {
     pub fn code(&self) -> FaultCode
         ensures { λ r. ⌜ r ≡ fieldCode (now (self .entry)) ⌝ }
     {
-        match self {
-            FieldFault::Bytes { line } => FaultCode { number: 2, layer: 1, line: *line },
-            FieldFault::Spacing { line } => FaultCode { number: 3, layer: 1, line: *line },
+        let (number, line) = match self {
+            FieldFault::Bytes { line } => (2, *line),
+            FieldFault::Spacing { line } => (3, *line),
+        };
+        FaultCode {
+            number,
+            layer: 1,
+            line,
         }
     }
 }

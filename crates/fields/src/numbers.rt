@@ -47,5 +47,9 @@ pub fn value_up_to(digits: &[u8], max: u32) -> Option<u32>
     ensures { λ r. ⌜ r ≡ upTo max (valueOf (now (digits .entry))) ⌝ }
 {
     let n = capped_value(digits);
-    if n <= max as u64 { Some(n as u32) } else { None }
+    if n <= max as u64 {
+        Some(n as u32)
+    } else {
+        None
+    }
 }

@@ -8,9 +8,21 @@ use crate::registers::Register;
 // `line` counts from 1, and `place` is the index in the text of the field's first byte.
 #[derive(Clone, Copy)]
 pub enum Token<'a> {
-    Word { text: &'a [u8], line: usize, place: usize },
-    Register { register: Register, line: usize, place: usize },
-    Number { digits: &'a [u8], line: usize, place: usize },
+    Word {
+        text: &'a [u8],
+        line: usize,
+        place: usize,
+    },
+    Register {
+        register: Register,
+        line: usize,
+        place: usize,
+    },
+    Number {
+        digits: &'a [u8],
+        line: usize,
+        place: usize,
+    },
 }
 
 impl<'a> Token<'a> {
@@ -21,12 +33,24 @@ impl<'a> Token<'a> {
         ensures stands { λ r. ⌜ lineOf r ≡ line ⌝ ∗ ⌜ placeOf r ≡ place ⌝ }
     {
         if let Some(register) = Register::named(field) {
-            return Token::Register { register, line, place };
+            return Token::Register {
+                register,
+                line,
+                place,
+            };
         }
         if is_numeral(field) {
-            return Token::Number { digits: field, line, place };
+            return Token::Number {
+                digits: field,
+                line,
+                place,
+            };
         }
-        Token::Word { text: field, line, place }
+        Token::Word {
+            text: field,
+            line,
+            place,
+        }
     }
 
     // Whether the token is the word, byte for byte.

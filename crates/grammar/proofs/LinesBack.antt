@@ -162,9 +162,10 @@ Back stage bs n l = (lineChecked bs n ≡ Ok tt) × (fieldsSay stage (pieces 32 
 line-back : (stage : Stage) (k : Keyword) (fs : List (List ℕ)) (n : ℕ) (l : Line) → AllFine fs → mayStand stage k ≡ true → lineBy k (givenBy (map seenOf fs)) n ≡ Ok l → Back stage (joinedBy 32 (spelled k ∷ fs)) n l
 line-back stage k fs n l fine may says =
     let all : AllFine (spelled k ∷ fs) = (word-fine k, fine) in
-    let cut = pieces-joined 32 (spelled k) fs (all-lack (spelled k ∷ fs) all) in
-    (cond-true _ _ _ (printable-joined (spelled k) fs all) ∙ cond-true _ _ _ (ap allSome cut ∙ all-some (spelled k ∷ fs) all),
-     ap (λ ps. fieldsSay stage ps n) cut ∙ ap (λ o. saidBy o (givenBy (map seenOf fs)) n) (word-here stage k ∙ cond-true _ _ _ may) ∙ says)
+    let cut = pieces-joined 32 (spelled k) fs (all-lack (spelled k ∷ fs) all) in (
+      cond-true _ _ _ (printable-joined (spelled k) fs all) ∙ cond-true _ _ _ (ap allSome cut ∙ all-some (spelled k ∷ fs) all),
+      ap (λ ps. fieldsSay stage ps n) cut ∙ ap (λ o. saidBy o (givenBy (map seenOf fs)) n) (word-here stage k ∙ cond-true _ _ _ may) ∙ says,
+    )
 
 module _ {A : Type 0} (kind : Seen → Bool) (value : Seen → Option A) (f : List ℕ) (x : A) (p : Reads kind value f x) (n : ℕ) where
   one-back : ofOne kind value (givenBy (map seenOf (f ∷ []))) n ≡ Ok x

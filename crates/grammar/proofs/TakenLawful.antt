@@ -109,33 +109,76 @@ ahead-none Between is ps c f r k room t o =
 module _ (is : List Init) (ps : List (List Instruction)) (ls : List Line) (f : Draft) where
   before-init : (i : Init) → initFits i ≡ true → FromBefore (is ++ (i ∷ [])) ps ls f → FromBefore is ps (line.Init i ∷ ls) f
   before-init i h q = record {
-      more = i ∷ q .more; rest = q .rest; lines = ap (λ ls. line.Init i ∷ ls) (q .lines); inits = q .inits ∙ append-assoc is (i ∷ []) (q .more); parties = q .parties;
-      order = q .order; count = q .count; inits-fit = and-from (initFits i) (initsFit (q .more)) h (q .inits-fit); law = q .law; fit = q .fit; most = q .most }
+    more = i ∷ q .more;
+    rest = q .rest;
+    lines = ap (λ ls. line.Init i ∷ ls) (q .lines);
+    inits = q .inits ∙ append-assoc is (i ∷ []) (q .more);
+    parties = q .parties;
+    order = q .order;
+    count = q .count;
+    inits-fit = and-from (initFits i) (initsFit (q .more)) h (q .inits-fit);
+    law = q .law;
+    fit = q .fit;
+    most = q .most;
+  }
 
   before-party : rising is ≡ true → length is ≤ 16 → FromInside is ps [] ls f → FromBefore is ps (line.Party ∷ ls) f
   before-party r k q = record {
-      more = []; rest = q .code ∷ q .rest; lines = ap (λ ls. line.Party ∷ ls) (q .lines); inits = q .inits ∙ sym (append-nil is); parties = q .parties;
-      order = ap rising (q .inits) ∙ r; count = subst (λ x. length x ≤ 16) (sym (q .inits)) k; inits-fit = refl;
-      law = and-from (partyLawful (q .code)) (partiesLawful (q .rest)) (q .party) (q .law); fit = and-from (codeFits (q .code)) (partiesFit (q .rest)) (q .code-fits) (q .fit); most = q .most }
+    more = [];
+    rest = q .code ∷ q .rest;
+    lines = ap (λ ls. line.Party ∷ ls) (q .lines);
+    inits = q .inits ∙ sym (append-nil is);
+    parties = q .parties;
+    order = ap rising (q .inits) ∙ r;
+    count = subst (λ x. length x ≤ 16) (sym (q .inits)) k;
+    inits-fit = refl;
+    law = and-from (partyLawful (q .code)) (partiesLawful (q .rest)) (q .party) (q .law);
+    fit = and-from (codeFits (q .code)) (partiesFit (q .rest)) (q .code-fits) (q .fit);
+    most = q .most;
+  }
 
   between-party : FromInside is ps [] ls f → FromBetween is ps (line.Party ∷ ls) f
   between-party q = record {
-      rest = q .code ∷ q .rest; lines = ap (λ ls. line.Party ∷ ls) (q .lines); inits = q .inits; parties = q .parties;
-      law = and-from (partyLawful (q .code)) (partiesLawful (q .rest)) (q .party) (q .law); fit = and-from (codeFits (q .code)) (partiesFit (q .rest)) (q .code-fits) (q .fit); most = q .most }
+    rest = q .code ∷ q .rest;
+    lines = ap (λ ls. line.Party ∷ ls) (q .lines);
+    inits = q .inits;
+    parties = q .parties;
+    law = and-from (partyLawful (q .code)) (partiesLawful (q .rest)) (q .party) (q .law);
+    fit = and-from (codeFits (q .code)) (partiesFit (q .rest)) (q .code-fits) (q .fit);
+    most = q .most;
+  }
 
   inside-instruction : (c : List Instruction) (i : Instruction) → instructionFits i ≡ true → FromInside is ps (c ++ (i ∷ [])) ls f → FromInside is ps c (line.Instruction i ∷ ls) f
   inside-instruction c i h q =
       let e = append-assoc c (i ∷ []) (q .code) in
       record {
-      code = i ∷ q .code; rest = q .rest; lines = ap (λ ls. line.Instruction i ∷ ls) (q .lines); inits = q .inits; parties = q .parties ∙ ap (λ x. ps ++ (x ∷ q .rest)) e;
-      party = subst (λ x. partyLawful x ≡ true) e (q .party); code-fits = and-from (instructionFits i) (codeFits (q .code)) h (q .code-fits); law = q .law; fit = q .fit; most = q .most }
+        code = i ∷ q .code;
+        rest = q .rest;
+        lines = ap (λ ls. line.Instruction i ∷ ls) (q .lines);
+        inits = q .inits;
+        parties = q .parties ∙ ap (λ x. ps ++ (x ∷ q .rest)) e;
+        party = subst (λ x. partyLawful x ≡ true) e (q .party);
+        code-fits = and-from (instructionFits i) (codeFits (q .code)) h (q .code-fits);
+        law = q .law;
+        fit = q .fit;
+        most = q .most;
+      }
 
   inside-end : (c : List Instruction) → partyLawful c ≡ true → FromBetween is (ps ++ (c ∷ [])) ls f → FromInside is ps c (line.End ∷ ls) f
   inside-end c h q =
       let e = append-nil c in
       record {
-      code = []; rest = q .rest; lines = ap (λ ls. line.End ∷ ls) (q .lines); inits = q .inits; parties = q .parties ∙ append-assoc ps (c ∷ []) (q .rest) ∙ ap (λ x. ps ++ (x ∷ q .rest)) (sym e);
-      party = subst (λ x. partyLawful x ≡ true) (sym e) h; code-fits = refl; law = q .law; fit = q .fit; most = q .most }
+        code = [];
+        rest = q .rest;
+        lines = ap (λ ls. line.End ∷ ls) (q .lines);
+        inits = q .inits;
+        parties = q .parties ∙ append-assoc ps (c ∷ []) (q .rest) ∙ ap (λ x. ps ++ (x ∷ q .rest)) (sym e);
+        party = subst (λ x. partyLawful x ≡ true) (sym e) h;
+        code-fits = refl;
+        law = q .law;
+        fit = q .fit;
+        most = q .most;
+      }
 
 ahead : (ls : List Line) (s : Stage) (n : ℕ) (is : List Init) (ps : List (List Instruction)) (c : List Instruction) (f : Draft) → rising is ≡ true → length is ≤ 16 → Kept s ps c → Taken n (draft is ps c s) ls f → outside (f .stage) ≡ true → Ahead s is ps c ls f
 ahead [] s n is ps c f r k room t o = ahead-none s is ps c f r k room t o

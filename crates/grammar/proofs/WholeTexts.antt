@@ -55,8 +55,15 @@ listed-lawful : (ls : List Line) (f : Draft) (l : Listing) → FromBefore [] [] 
 listed-lawful ls f l t k =
     let text : ended ls ≡ textOf (listed f) = ap ended (t .lines) ∙ ap (λ is. ended (initLines is (partyLines (t .rest)))) (sym (t .inits)) ∙ ap (λ ps. ended (initLines (f .inits) (partyLines ps))) (sym (t .parties)) in
     let law : lawful (listed f) ≡ true = within-limits (listed f) (record {
-        fewest = k .fewest; most = t .most; parties = ap partiesLawful (t .parties) ∙ t .law; count = t .count; order = t .order;
-        inits-fit = ap initsFit (t .inits) ∙ t .inits-fit; parties-fit = ap partiesFit (t .parties) ∙ t .fit; addresses = k .addresses }) in
+      fewest = k .fewest;
+      most = t .most;
+      parties = ap partiesLawful (t .parties) ∙ t .law;
+      count = t .count;
+      order = t .order;
+      inits-fit = ap initsFit (t .inits) ∙ t .inits-fit;
+      parties-fit = ap partiesFit (t .parties) ∙ t .fit;
+      addresses = k .addresses;
+    }) in
     subst (λ l. (ended ls ≡ textOf l) × (lawful l ≡ true)) (k .is) (text, law)
 
 module _ (back : Lines-read-back) (only : Lines-read-as-written) where
@@ -78,13 +85,16 @@ module _ (back : Lines-read-back) (only : Lines-read-as-written) where
       let k = limits l h in
       let short = text-length l k in
       let r = lawful-taken l k in
-      let long = text-some l k in
-      (cond-true _ _ _ (and-from _ _ (le-leb 1 (length (textOf l)) long) (le-leb (length (textOf l)) 8192 (omega arith)))
-      ∙ ap (λ ps. onward (readFrom 1 blank ps) finished) (cut-lines back only (linesOf l) 1 blank (r .last) (r .taken))
-      ∙ ap (λ x. onward x finished) (read-taken back only (linesOf l) 1 blank (r .last) (r .taken))
-      ∙ finished-is (r .last) l (reached-finished l k r), short)
+      let long = text-some l k in (
+        cond-true _ _ _ (and-from _ _ (le-leb 1 (length (textOf l)) long) (le-leb (length (textOf l)) 8192 (omega arith)))
+            ∙ ap (λ ps. onward (readFrom 1 blank ps) finished) (cut-lines back only (linesOf l) 1 blank (r .last) (r .taken))
+            ∙ ap (λ x. onward x finished) (read-taken back only (linesOf l) 1 blank (r .last) (r .taken))
+            ∙ finished-is (r .last) l (reached-finished l k r),
+        short,
+      )
 
   pub reads-exactly : Reads-exactly
   reads-exactly bs l = (
-      (λ e. let p = read-is-written bs l e in (subst (λ bs. Spells bs l) (sym (p .0)) (lines-spelled (linesOf l) (lines-of-fit l (limits l (p .1)))), p .1)),
-      (λ s h. ap readOf (lines-are s (lines-of-fit l (limits l h))) ∙ written-is-read l h .0))
+    (λ e. let p = read-is-written bs l e in (subst (λ bs. Spells bs l) (sym (p .0)) (lines-spelled (linesOf l) (lines-of-fit l (limits l (p .1)))), p .1)),
+    (λ s h. ap readOf (lines-are s (lines-of-fit l (limits l h))) ∙ written-is-read l h .0),
+  )

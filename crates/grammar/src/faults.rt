@@ -51,16 +51,21 @@ impl RoutineFault {
     pub fn code(&self) -> FaultCode
         ensures { λ r. ⌜ r ≡ routineCode (now (self .entry)) ⌝ }
     {
-        match self {
-            RoutineFault::Line(fault) => fault.code(),
-            RoutineFault::Length => FaultCode { number: 1, layer: 3, line: 0 },
-            RoutineFault::Order { line } => FaultCode { number: 8, layer: 3, line: *line },
-            RoutineFault::Room { line } => FaultCode { number: 9, layer: 3, line: *line },
-            RoutineFault::Empty { line } => FaultCode { number: 10, layer: 3, line: *line },
-            RoutineFault::Target { line } => FaultCode { number: 11, layer: 3, line: *line },
-            RoutineFault::Unfinished => FaultCode { number: 12, layer: 3, line: 0 },
-            RoutineFault::Addresses => FaultCode { number: 13, layer: 3, line: 0 },
-            RoutineFault::Memory => FaultCode { number: 255, layer: 0, line: 0 },
+        let (number, layer, line) = match self {
+            RoutineFault::Line(fault) => return fault.code(),
+            RoutineFault::Length => (1, 3, 0),
+            RoutineFault::Order { line } => (8, 3, *line),
+            RoutineFault::Room { line } => (9, 3, *line),
+            RoutineFault::Empty { line } => (10, 3, *line),
+            RoutineFault::Target { line } => (11, 3, *line),
+            RoutineFault::Unfinished => (12, 3, 0),
+            RoutineFault::Addresses => (13, 3, 0),
+            RoutineFault::Memory => (255, 0, 0),
+        };
+        FaultCode {
+            number,
+            layer,
+            line,
         }
     }
 }

@@ -54,7 +54,12 @@ pub(crate) fn number(arguments: Arguments, max: u32, line: usize) -> Result<u32,
     Ok(number)
 }
 
-pub(crate) fn two_numbers(arguments: Arguments, max: u32, next_max: u32, line: usize) -> Result<(u32, u32), LineFault>
+pub(crate) fn two_numbers(
+    arguments: Arguments,
+    max: u32,
+    next_max: u32,
+    line: usize,
+) -> Result<(u32, u32), LineFault>
     ensures value { λ r. ⌜ r ≡ ofTwo isNumber (numberIn max) isNumber (numberIn «next_max») (given (arguments .entry)) line ⌝ }
     ensures within { λ r. ⌜ made r (λ p. p .0 ≤ max) ⌝ }
 {
@@ -64,7 +69,11 @@ pub(crate) fn two_numbers(arguments: Arguments, max: u32, next_max: u32, line: u
     let Token::Number { digits, .. } = first else {
         return Err(LineFault::Kind { line });
     };
-    let Token::Number { digits: next_digits, .. } = second else {
+    let Token::Number {
+        digits: next_digits,
+        ..
+    } = second
+    else {
         return Err(LineFault::Kind { line });
     };
     let Some(number) = value_up_to(digits, max) else {
@@ -76,7 +85,11 @@ pub(crate) fn two_numbers(arguments: Arguments, max: u32, next_max: u32, line: u
     Ok((number, next))
 }
 
-pub(crate) fn register_and_number(arguments: Arguments, max: u32, line: usize) -> Result<(Register, u32), LineFault>
+pub(crate) fn register_and_number(
+    arguments: Arguments,
+    max: u32,
+    line: usize,
+) -> Result<(Register, u32), LineFault>
     ensures value { λ r. ⌜ r ≡ ofTwo isRegister registerIn isNumber (numberIn max) (given (arguments .entry)) line ⌝ }
     ensures within { λ r. ⌜ made r (λ p. p .1 ≤ max) ⌝ }
 {
@@ -95,7 +108,11 @@ pub(crate) fn register_and_number(arguments: Arguments, max: u32, line: usize) -
     Ok((register, number))
 }
 
-pub(crate) fn number_and_operand(arguments: Arguments, max: u32, line: usize) -> Result<(u32, Operand), LineFault>
+pub(crate) fn number_and_operand(
+    arguments: Arguments,
+    max: u32,
+    line: usize,
+) -> Result<(u32, Operand), LineFault>
     ensures value { λ r. ⌜ r ≡ ofTwo isNumber (numberIn max) isOperand operandIn (given (arguments .entry)) line ⌝ }
     ensures within { λ r. ⌜ made r (λ p. p .0 ≤ max) ⌝ }
 {
@@ -117,7 +134,10 @@ pub(crate) fn number_and_operand(arguments: Arguments, max: u32, line: usize) ->
     Ok((number, operand))
 }
 
-pub(crate) fn register_and_operand(arguments: Arguments, line: usize) -> Result<(Register, Operand), LineFault>
+pub(crate) fn register_and_operand(
+    arguments: Arguments,
+    line: usize,
+) -> Result<(Register, Operand), LineFault>
     ensures { λ r. ⌜ r ≡ ofTwo isRegister registerIn isOperand operandIn (given (arguments .entry)) line ⌝ }
 {
     let Arguments::Two(first, second) = arguments else {

@@ -34,12 +34,17 @@ impl LineFault {
     pub fn code(&self) -> FaultCode
         ensures { λ r. ⌜ r ≡ lineCode (now (self .entry)) ⌝ }
     {
-        match self {
-            LineFault::Field(fault) => fault.code(),
-            LineFault::Word { line } => FaultCode { number: 4, layer: 2, line: *line },
-            LineFault::Count { line } => FaultCode { number: 5, layer: 2, line: *line },
-            LineFault::Kind { line } => FaultCode { number: 6, layer: 2, line: *line },
-            LineFault::Range { line } => FaultCode { number: 7, layer: 2, line: *line },
+        let (number, line) = match self {
+            LineFault::Field(fault) => return fault.code(),
+            LineFault::Word { line } => (4, *line),
+            LineFault::Count { line } => (5, *line),
+            LineFault::Kind { line } => (6, *line),
+            LineFault::Range { line } => (7, *line),
+        };
+        FaultCode {
+            number,
+            layer: 2,
+            line,
         }
     }
 }

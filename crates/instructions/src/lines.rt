@@ -48,7 +48,11 @@ fn keyword_here(first: Token, stage: Stage) -> Option<Keyword>
     ensures { λ r. ⌜ r ≡ keywordHere stage (seen (first .entry)) ⌝ }
 {
     let keyword = Keyword::of(first)?;
-    if keyword.may_stand(stage) { Some(keyword) } else { None }
+    if keyword.may_stand(stage) {
+        Some(keyword)
+    } else {
+        None
+    }
 }
 
 // What a line says that begins with the keyword.
@@ -58,7 +62,10 @@ fn line_of(keyword: Keyword, arguments: Arguments, line: usize) -> Result<Line, 
     match keyword {
         Keyword::Init => {
             let (address, value) = two_numbers(arguments, 65535, u32::MAX, line)?;
-            Ok(Line::Init(Init { address: address as u16, value }))
+            Ok(Line::Init(Init {
+                address: address as u16,
+                value,
+            }))
         }
         Keyword::Party => {
             none(arguments, line)?;

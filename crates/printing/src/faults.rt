@@ -20,7 +20,10 @@ impl PrintFault {
         ensures { λ r. ⌜ r ≡ printCode (now (self .entry)) ⌝ }
     {
         match self {
-            PrintFault::Short { needed } => RefusalCode { number: 14, value: *needed },
+            PrintFault::Short { needed } => RefusalCode {
+                number: 14,
+                value: *needed,
+            },
         }
     }
 }

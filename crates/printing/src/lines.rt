@@ -41,7 +41,13 @@ fn put_with_one(out: &mut [u8], at: usize, keyword: Keyword, field: Operand) -> 
 }
 
 // Writes a word and two fields, and ends the line.
-fn put_with_two(out: &mut [u8], at: usize, keyword: Keyword, first: Operand, second: Operand) -> usize
+fn put_with_two(
+    out: &mut [u8],
+    at: usize,
+    keyword: Keyword,
+    first: Operand,
+    second: Operand,
+) -> usize
     requires { ⌜ at + length (joinedBy 32 (spelled keyword ∷ (operandText first ∷ (operandText second ∷ []))) ++ (10 ∷ [])) < 2 ^ 64 ⌝ }
     ensures writes { λ _. ⌜ now (out .exit) ≡ sets (now (out .entry)) at (joinedBy 32 (spelled keyword ∷ (operandText first ∷ (operandText second ∷ []))) ++ (10 ∷ [])) ⌝ }
     ensures ends { λ r. ⌜ r ≡ at + length (joinedBy 32 (spelled keyword ∷ (operandText first ∷ (operandText second ∷ []))) ++ (10 ∷ [])) ⌝ }
@@ -66,15 +72,56 @@ pub(crate) fn put_instruction(out: &mut [u8], at: usize, instruction: Instructio
     ensures ends { λ r. ⌜ r ≡ at + length (lineText (Line.Instruction instruction) ++ (10 ∷ [])) ⌝ }
 {
     match instruction {
-        Instruction::Load(r, address) => put_with_two(out, at, Keyword::Load, Operand::Register(r), number(address)),
-        Instruction::Store(address, source) => put_with_two(out, at, Keyword::Store, number(address), source),
-        Instruction::Exchange(r, address) => put_with_two(out, at, Keyword::Exchange, Operand::Register(r), number(address)),
+        Instruction::Load(r, address) => put_with_two(
+            out,
+            at,
+            Keyword::Load,
+            Operand::Register(r),
+            number(address),
+        ),
+        Instruction::Store(address, source) => put_with_two(
+            out,
+            at,
+            Keyword::Store,
+            number(address),
+            source,
+        ),
+        Instruction::Exchange(r, address) => put_with_two(
+            out,
+            at,
+            Keyword::Exchange,
+            Operand::Register(r),
+            number(address),
+        ),
         Instruction::Fence => put_word(out, at, Keyword::Fence),
         Instruction::Nop => put_word(out, at, Keyword::Nop),
-        Instruction::Set(r, source) => put_with_two(out, at, Keyword::Set, Operand::Register(r), source),
-        Instruction::Add(r, source) => put_with_two(out, at, Keyword::Add, Operand::Register(r), source),
-        Instruction::JumpNonzero(r, target) => put_with_two(out, at, Keyword::JumpNonzero, Operand::Register(r), number(u16::from(target))),
-        Instruction::Jump(target) => put_with_one(out, at, Keyword::Jump, number(u16::from(target))),
+        Instruction::Set(r, source) => put_with_two(
+            out,
+            at,
+            Keyword::Set,
+            Operand::Register(r),
+            source,
+        ),
+        Instruction::Add(r, source) => put_with_two(
+            out,
+            at,
+            Keyword::Add,
+            Operand::Register(r),
+            source,
+        ),
+        Instruction::JumpNonzero(r, target) => put_with_two(
+            out,
+            at,
+            Keyword::JumpNonzero,
+            Operand::Register(r),
+            number(u16::from(target)),
+        ),
+        Instruction::Jump(target) => put_with_one(
+            out,
+            at,
+            Keyword::Jump,
+            number(u16::from(target)),
+        ),
     }
 }
 
@@ -84,7 +131,13 @@ pub(crate) fn put_init(out: &mut [u8], at: usize, init: Init) -> usize
     ensures writes { λ _. ⌜ now (out .exit) ≡ sets (now (out .entry)) at (lineText (Line.Init init) ++ (10 ∷ [])) ⌝ }
     ensures ends { λ r. ⌜ r ≡ at + length (lineText (Line.Init init) ++ (10 ∷ [])) ⌝ }
 {
-    put_with_two(out, at, Keyword::Init, number(init.address), Operand::Constant(init.value))
+    put_with_two(
+        out,
+        at,
+        Keyword::Init,
+        number(init.address),
+        Operand::Constant(init.value),
+    )
 }
 
 // Writes a party: PARTY, its instructions, END.

@@ -38,7 +38,7 @@ fn same_parties(a: &[Party], b: &[Party]) -> bool
     true
 }
 
-pub fn same_routine(a: &Routine, b: &Routine) -> bool
+pub(crate) fn same_routine(a: &Routine, b: &Routine) -> bool
     ensures { λ r. ⌜ Decides r (listing (now (a .entry)) ≡ listing (now (b .entry))) ⌝ }
 {
     same_inits(a.inits(), b.inits()) && same_parties(a.parties(), b.parties())

@@ -28,7 +28,7 @@ fn line_refused(heap: Global, name: &str, code: FaultCode) -> Result<String, All
 }
 
 // The case's name, and READ or the fault's number, layer and line.
-pub fn line_of(
+pub(crate) fn line_of(
     heap: Global,
     name: &str,
     answer: Result<(), RoutineFault>,

@@ -24,7 +24,11 @@ impl ReportFault {
         ensures { λ r. ⌜ r ≡ reportCode (now (self .entry)) ⌝ }
     {
         match self {
-            ReportFault::Memory => FaultCode { number: 255, layer: 0, line: 0 },
+            ReportFault::Memory => FaultCode {
+                number: 255,
+                layer: 0,
+                line: 0,
+            },
         }
     }
 }

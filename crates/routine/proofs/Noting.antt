@@ -42,8 +42,8 @@ noted-there a [] h e = absurd (omega arith)
 noted-there a (b ∷ bs) h e =
     ⊎-elim (λ s. noted-same a b bs s)
     (⊎-elim
-      (λ l. let p = leading-later a b bs l in noted-later a b bs l ∙ ap (λ cs. b ∷ cs) (noted-there a bs (omega arith) (sym (ap (λ n. getD (b ∷ bs) n 0) p) ∙ e)))
-      (λ g. let p = leading-here a b bs (omega arith) in let z : b ≡ a = sym (ap (λ n. getD (b ∷ bs) n 0) p) ∙ e in absurd (omega arith)))
+    (λ l. let p = leading-later a b bs l in noted-later a b bs l ∙ ap (λ cs. b ∷ cs) (noted-there a bs (omega arith) (sym (ap (λ n. getD (b ∷ bs) n 0) p) ∙ e)))
+    (λ g. let p = leading-here a b bs (omega arith) in let z : b ≡ a = sym (ap (λ n. getD (b ∷ bs) n 0) p) ∙ e in absurd (omega arith)))
     (cases-order b a)
 
 -- an address that does not
@@ -52,8 +52,8 @@ noted-new a [] h = refl
 noted-new a (b ∷ bs) h =
     ⊎-elim (λ s. let p = leading-here a b bs (omega arith) in absurd (h (omega arith) (ap (λ n. getD (b ∷ bs) n 0) p ∙ s)))
     (⊎-elim
-      (λ l. let p = leading-later a b bs l in noted-later a b bs l ∙ ap (λ cs. b ∷ cs) (noted-new a bs (λ k e. h (omega arith) (ap (λ n. getD (b ∷ bs) n 0) p ∙ e))) ∙ sym (ap (λ n. inserted (b ∷ bs) n a) p))
-      (λ g. noted-here a b bs g ∙ sym (ap (λ n. inserted (b ∷ bs) n a) (leading-here a b bs (omega arith)))))
+    (λ l. let p = leading-later a b bs l in noted-later a b bs l ∙ ap (λ cs. b ∷ cs) (noted-new a bs (λ k e. h (omega arith) (ap (λ n. getD (b ∷ bs) n 0) p ∙ e))) ∙ sym (ap (λ n. inserted (b ∷ bs) n a) p))
+    (λ g. noted-here a b bs g ∙ sym (ap (λ n. inserted (b ∷ bs) n a) (leading-here a b bs (omega arith)))))
     (cases-order b a)
 
 -- the same by the test whether it stands in its place

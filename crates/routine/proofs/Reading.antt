@@ -69,8 +69,9 @@ held text l d e h = (ap lawful (h .listing) ∙ read-is-written text l e .1, (h 
 
 pub refused-grammar : (text : List ℕ) (e : RoutineFault) (g : Fresh) → readOf text ≡ Err e → ByGrammar text (Err e) g
 refused-grammar text e g h = record {
-    only = λ r. absurd (err-ok e r);
-    each = λ l spells law. absurd (ok-err l e (sym (reads-exactly text l .1 spells law) ∙ h)) }
+  only = λ r. absurd (err-ok e r);
+  each = λ l spells law. absurd (ok-err l e (sym (reads-exactly text l .1 spells law) ∙ h));
+}
 
 same-ok : (k l : Listing) → _≡_ {A = Result Listing RoutineFault} (Ok k) (Ok l) → k ≡ l
 same-ok k l e = cc
@@ -81,4 +82,5 @@ accepted-grammar text l g h is =
     let p = reads-exactly text (freshListing g) .0 e in
     record {
       only = λ _. (p .0, (p .1, read-is-written text (freshListing g) e .0));
-      each = λ k spells law. (refl, is ∙ same-ok l k (sym h ∙ reads-exactly text k .1 spells law)) }
+      each = λ k spells law. (refl, is ∙ same-ok l k (sym h ∙ reads-exactly text k .1 spells law));
+    }

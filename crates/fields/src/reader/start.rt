@@ -10,7 +10,14 @@ impl<'a> Reader<'a> {
     pub fn new(text: &'a [u8]) -> Reader<'a>
         ensures { λ r. ⌜ r .text .now ≡ now (text .entry) ⌝ ∗ ⌜ linesLeft r ≡ pieces 10 (now (text .entry)) ⌝ ∗ ⌜ r .line ≡ 0 ⌝ ∗ ⌜ r .more ≡ false ⌝ }
     {
-        Reader { text, next: 0, line: 0, place: 0, stop: 0, more: false }
+        Reader {
+            text,
+            next: 0,
+            line: 0,
+            place: 0,
+            stop: 0,
+            more: false,
+        }
     }
 
     // The number of the current line, 0 before the first.

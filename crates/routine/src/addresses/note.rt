@@ -39,7 +39,9 @@ fn address_in(instruction: Instruction) -> Option<u16>
     ensures { λ r. ⌜ listed r ≡ addressIn instruction ⌝ }
 {
     match instruction {
-        Instruction::Load(_, address) | Instruction::Store(address, _) | Instruction::Exchange(_, address) => Some(address),
+        Instruction::Load(_, address)
+        | Instruction::Store(address, _)
+        | Instruction::Exchange(_, address) => Some(address),
         _ => None,
     }
 }

@@ -17,6 +17,7 @@ use crate::draft::Draft;
 use crate::party::Party;
 use crate::routine::Routine;
 use crate::storage::Storage;
+use fields::reader::Reader;
 use grammar::faults::RoutineFault;
 use grammar::faults::RoutineFromLine;
 use instructions::lines::read_line;
@@ -25,7 +26,6 @@ use instructions::types::Instruction;
 use instructions::types::Line;
 use instructions::types::Stage;
 use instructions::types::StagePartialEq;
-use fields::reader::Reader;
 use std::alloc::AllocError;
 use std::alloc::Global;
 
@@ -40,7 +40,11 @@ impl Draft {
     {
         let storage = Storage::new(heap)?;
         let current = Party::new(heap)?;
-        Ok(Draft { storage, current, stage: Stage::Before })
+        Ok(Draft {
+            storage,
+            current,
+            stage: Stage::Before,
+        })
     }
 
     fn clear(&mut self)

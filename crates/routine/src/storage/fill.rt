@@ -62,7 +62,12 @@ impl Storage {
         let inits = Vec::with_capacity(heap, 16)?;
         let parties = four_parties(heap)?;
         let addresses = Addresses::new(heap)?;
-        Ok(Storage { inits, parties, count: 0, addresses })
+        Ok(Storage {
+            inits,
+            parties,
+            count: 0,
+            addresses,
+        })
     }
 
     pub(crate) fn clear(&mut self)

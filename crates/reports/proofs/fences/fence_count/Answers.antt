@@ -11,8 +11,9 @@ add-count c = omega (arith, c .loop-instruction .inv, c .good .0, count-le (c .a
 
 pub loop-instruction-again : need.loop-instruction-again
 loop-instruction-again c = elim (c .if-is-fence .came) [
-    then-is-fence w ↦ omega (arith, w .count-is, c .loop-instruction .inv, count-fence (c .args .code .now) (c .loop-instruction .instruction-index) _ (c .loop-instruction-test .taken) (sym (w .if-is-fence .ensures tt)))
-  | else-is-fence w ↦ omega (arith, w .count-is, c .loop-instruction .inv, count-other (c .args .code .now) (c .loop-instruction .instruction-index) _ (c .loop-instruction-test .taken) (sym (w .if-is-fence .ensures tt))) ]
+  | then-is-fence w ↦ omega (arith, w .count-is, c .loop-instruction .inv, count-fence (c .args .code .now) (c .loop-instruction .instruction-index) _ (c .loop-instruction-test .taken) (sym (w .if-is-fence .ensures tt)))
+  | else-is-fence w ↦ omega (arith, w .count-is, c .loop-instruction .inv, count-other (c .args .code .now) (c .loop-instruction .instruction-index) _ (c .loop-instruction-test .taken) (sym (w .if-is-fence .ensures tt)))
+]
 
 pub returns : need.returns
 returns c = omega (arith, c .loop-instruction .inv, at-drop-all fenceCount (c .args .code .now) (c .loop-instruction .instruction-index) (c .loop-instruction-test .left))

@@ -17,7 +17,8 @@ returns-then-is-empty c =
     let cut = take-rest (c .args .self .now .text .now) (c .args .self .now .next) in
     record {
       is = ahead-end (drop (c .args .self .now .next) (c .args .self .now .text .now)) (sym (ap length cut) ∙ eqb-true _ _ (sym (c .if-is-empty .ensures tt)));
-      room = tt }
+      room = tt;
+    }
 
 some-left : {n m : ℕ} → false ≡ eqb n m → n ≡ m → ⊥
 some-left {n} {m} e = eqb-false n m (sym e)
@@ -31,7 +32,8 @@ returns-then-n-rest c =
     let ne = some-left (c .if-is-empty .ensures tt) in
     record {
       is = ahead-unended (drop next text) (c .run-to-n .result) (λ e. ne (ap length cut ∙ e)) (c .run-to-n .ensures .is ∙ ap (leading (other 10)) cut) (c .if-n-rest .taken ∙ ap length cut);
-      room = omega (arith, ap length cut) }
+      room = omega (arith, ap length cut);
+    }
 
 pub returns : need.returns
 returns c =
@@ -48,4 +50,5 @@ returns c =
     let all = length-drop next text in
     record {
       is = ahead-line (drop next text) n _ bytes lead some;
-      room = (omega arith, record { leads = len ∙ lead; ends = omega arith }) }
+      room = (omega arith, record { leads = len ∙ lead; ends = omega arith });
+    }

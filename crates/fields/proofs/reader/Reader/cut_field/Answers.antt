@@ -22,5 +22,6 @@ ghost-self c =
 
 pub returns : need.returns
 returns c = elim (c .if-n-rest .came) [
-    then-n-rest w ↦ next-field-more (c .args .self .now) (c .if-n-rest .self) _ (c .run-to-n .result) (c .if-not-self .left) refl (c .run-to-n .ensures .is) (ap (λ (q : Reader). q .text .now) (w .self-is)) (ap (λ (q : Reader). q .line) (w .self-is)) (ap (λ (q : Reader). q .next) (w .self-is)) (w .if-n-rest .taken) (ap (λ (q : Reader). q .place) (w .self-is)) (ap (λ (q : Reader). q .stop) (w .self-is)) (ap (λ (q : Reader). q .more) (w .self-is))
-  | else-n-rest w ↦ next-field-last (c .args .self .now) (c .if-n-rest .self) _ (c .run-to-n .result) (c .if-not-self .left) refl (c .run-to-n .ensures .is) (ap (λ (q : Reader). q .text .now) (w .self-is)) (ap (λ (q : Reader). q .line) (w .self-is)) (ap (λ (q : Reader). q .next) (w .self-is)) (w .if-n-rest .left) (ap (λ (q : Reader). q .more) (w .self-is)) ]
+  | then-n-rest w ↦ next-field-more (c .args .self .now) (c .if-n-rest .self) _ (c .run-to-n .result) (c .if-not-self .left) refl (c .run-to-n .ensures .is) (ap (λ (q : Reader). q .text .now) (w .self-is)) (ap (λ (q : Reader). q .line) (w .self-is)) (ap (λ (q : Reader). q .next) (w .self-is)) (w .if-n-rest .taken) (ap (λ (q : Reader). q .place) (w .self-is)) (ap (λ (q : Reader). q .stop) (w .self-is)) (ap (λ (q : Reader). q .more) (w .self-is))
+  | else-n-rest w ↦ next-field-last (c .args .self .now) (c .if-n-rest .self) _ (c .run-to-n .result) (c .if-not-self .left) refl (c .run-to-n .ensures .is) (ap (λ (q : Reader). q .text .now) (w .self-is)) (ap (λ (q : Reader). q .line) (w .self-is)) (ap (λ (q : Reader). q .next) (w .self-is)) (w .if-n-rest .left) (ap (λ (q : Reader). q .more) (w .self-is))
+]

@@ -40,4 +40,5 @@ returns c =
       begins = refl;
       line = take n (drop next text);
       cut = cut-line 10 (drop next text) n (c .pre .leads) (c .pre .ends) ∙ ap (λ bs. take n (drop next text) ∷ pieces 10 bs) (drop-drop (n + 1) next text ∙ ap (λ m. drop m text) (sym (add-assoc next n 1)));
-      fields = ap (λ m. pieces 32 (take m (drop next text))) (let e : next + n - next ≡ n = omega arith in e) }
+      fields = ap (λ m. pieces 32 (take m (drop next text))) (let e : next + n - next ≡ n = omega arith in e);
+    }

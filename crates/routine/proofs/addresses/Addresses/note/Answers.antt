@@ -17,7 +17,8 @@ returns-then-stands-at c =
     let same = noted-standing (c .args .address) (vec-items v) (c .place-of-place .result) place (ap (λ bs. standsAt bs (c .place-of-place .result) (c .args .address)) (sym (c .as-slice-2 .ensures .value)) ∙ sym (c .if-stands-at .ensures tt)) in
     record {
       answer = sym (le-leb _ 32 (omega (arith, ap length same, c .args .self .now .few, v .ok .0)));
-      after = sym same }
+      after = sym same;
+    }
 
 pub returns-then-len-ge32 : need.returns-then-len-ge32
 returns-then-len-ge32 c =
@@ -26,7 +27,8 @@ returns-then-len-ge32 c =
     let new = noted-absent (c .args .address) (vec-items v) (c .place-of-place .result) place (ap (λ bs. standsAt bs (c .place-of-place .result) (c .args .address)) (sym (c .as-slice-2 .ensures .value)) ∙ sym (c .if-stands-at .ensures tt)) in
     record {
       answer = sym (lt-leb _ 32 (omega (arith, new .1, c .if-len-ge32 .taken, c .len .ensures, v .ok .0)));
-      after = refl }
+      after = refl;
+    }
 
 pub returns : need.returns
 returns c =
@@ -35,4 +37,5 @@ returns c =
     let new = noted-absent (c .args .address) (vec-items v) (c .place-of-place .result) place (ap (λ bs. standsAt bs (c .place-of-place .result) (c .args .address)) (sym (c .as-slice-2 .ensures .value)) ∙ sym (c .if-stands-at .ensures tt)) in
     record {
       answer = sym (le-leb _ 32 (omega (arith, new .1, c .if-len-ge32 .left, c .len .ensures, v .ok .0)));
-      after = c .insert .ensures .items ∙ cond-true _ _ _ (c .insert .ensures .succeeds (omega (arith, c .if-len-ge32 .left, c .len .ensures, c .args .self .now .room))) ∙ sym (new .0) }
+      after = c .insert .ensures .items ∙ cond-true _ _ _ (c .insert .ensures .succeeds (omega (arith, c .if-len-ge32 .left, c .len .ensures, c .args .self .now .room))) ∙ sym (new .0);
+    }

@@ -11,8 +11,9 @@ use Rattle.routine.proofs.addresses.Addresses.note_code.Needs as need
 
 pub returns-then-not-note-instruction : need.returns-then-not-note-instruction
 returns-then-not-note-instruction c = record {
-    answer = fold-over notedCode (λ (i : Instruction) seen. notedIn (addressIn i) seen) (λ _. refl) (λ _ _ _. refl) more-code (c .args .code .now) (c .loop-instruction .instruction-index) (notedList (c .loop-instruction .self)) _ (c .loop-instruction .inv) _ (c .loop-instruction-test .taken) (c .if-not-note-instruction .ensures tt .answer);
-    after = λ e. absurd (false≢true e) }
+  answer = fold-over notedCode (λ (i : Instruction) seen. notedIn (addressIn i) seen) (λ _. refl) (λ _ _ _. refl) more-code (c .args .code .now) (c .loop-instruction .instruction-index) (notedList (c .loop-instruction .self)) _ (c .loop-instruction .inv) _ (c .loop-instruction-test .taken) (c .if-not-note-instruction .ensures tt .answer);
+  after = λ e. absurd (false≢true e);
+}
 
 pub loop-instruction-again : need.loop-instruction-again
 loop-instruction-again c = fold-more notedCode (λ (i : Instruction) seen. notedIn (addressIn i) seen) (λ _. refl) (λ _ _ _. refl) more-code (c .args .code .now) (c .loop-instruction .instruction-index) (notedList (c .loop-instruction .self)) _ (c .loop-instruction .inv) _ _ (c .loop-instruction-test .taken) (c .if-not-note-instruction .ensures tt .after)

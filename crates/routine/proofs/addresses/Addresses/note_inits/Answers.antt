@@ -11,8 +11,9 @@ use Rattle.routine.proofs.addresses.Addresses.note_inits.Needs as need
 
 pub returns-then-not-note : need.returns-then-not-note
 returns-then-not-note c = record {
-    answer = fold-over notedInits (λ (i : Init) seen. noted (i .address) seen) (λ _. refl) (λ _ _ _. refl) more-inits (c .args .inits .now) (c .loop-init .init-index) (notedList (c .loop-init .self)) _ (c .loop-init .inv) _ (c .loop-init-test .taken) (c .if-not-note .ensures tt .answer);
-    after = λ e. absurd (false≢true e) }
+  answer = fold-over notedInits (λ (i : Init) seen. noted (i .address) seen) (λ _. refl) (λ _ _ _. refl) more-inits (c .args .inits .now) (c .loop-init .init-index) (notedList (c .loop-init .self)) _ (c .loop-init .inv) _ (c .loop-init-test .taken) (c .if-not-note .ensures tt .answer);
+  after = λ e. absurd (false≢true e);
+}
 
 pub loop-init-again : need.loop-init-again
 loop-init-again c = fold-more notedInits (λ (i : Init) seen. noted (i .address) seen) (λ _. refl) (λ _ _ _. refl) more-inits (c .args .inits .now) (c .loop-init .init-index) (notedList (c .loop-init .self)) _ (c .loop-init .inv) _ _ (c .loop-init-test .taken) (c .if-not-note .ensures tt .after)

@@ -12,4 +12,5 @@ returns c =
     let v = c .args .self .now .parties in
     record {
       parties = one-more codeOf (vec-items v) (c .args .self .now .count) (c .swap .last .x) (omega (arith, c .pre, c .args .self .now .four, v .ok .0)) ∙ ap (λ p. partiesOf (c .args .self .now) ++ (codeOf p ∷ [])) (c .swap .ensures .x-after);
-      same = (refl, refl) }
+      same = (refl, refl);
+    }

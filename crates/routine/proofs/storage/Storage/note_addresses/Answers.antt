@@ -21,7 +21,8 @@ returns-then-not-note-inits c =
     record {
       answer = sym (lt-leb _ 32 (omega (arith, leb-false _ 32 (sym (c .if-not-note-inits .ensures tt .answer)), ap length e, more-parties (partiesOf s) (notedInits (initsOf s) []))));
       after = λ t. absurd (false≢true t);
-      same = (refl, (refl, refl)) }
+      same = (refl, (refl, refl));
+    }
 
 pub returns : need.returns
 returns c =
@@ -32,4 +33,5 @@ returns c =
     record {
       answer = c .note-parties .ensures .answer ∙ (λ i. leb (length (notedParties (ps i) (seen i))) 32);
       after = λ t. c .note-parties .ensures .after t ∙ (λ i. notedParties (ps i) (seen i));
-      same = (refl, (refl, refl)) }
+      same = (refl, (refl, refl));
+    }

@@ -21,9 +21,10 @@ each p seen = notedCode (codeOf p) seen
 
 pub returns-then-not-note-code : need.returns-then-not-note-code
 returns-then-not-note-code c = record {
-    answer = fold-over all each (λ _. refl) (λ _ _ _. refl) (λ ps seen. more-parties (map codeOf ps) seen) (c .args .parties .now) (c .loop-party .party-index) (notedList (c .loop-party .addresses)) _ (c .loop-party .inv) (c .party-item .result) (c .loop-party-test .taken)
-        (c .if-not-note-code .ensures tt .answer ∙ ap (λ is. leb (length (notedCode is (notedList (c .loop-party .addresses)))) 32) (c .code .ensures ∙ ap codeOf (c .party-item .is)));
-    after = λ e. absurd (false≢true e) }
+  answer = fold-over all each (λ _. refl) (λ _ _ _. refl) (λ ps seen. more-parties (map codeOf ps) seen) (c .args .parties .now) (c .loop-party .party-index) (notedList (c .loop-party .addresses)) _ (c .loop-party .inv) (c .party-item .result) (c .loop-party-test .taken)
+      (c .if-not-note-code .ensures tt .answer ∙ ap (λ is. leb (length (notedCode is (notedList (c .loop-party .addresses)))) 32) (c .code .ensures ∙ ap codeOf (c .party-item .is)));
+  after = λ e. absurd (false≢true e);
+}
 
 pub loop-party-again : need.loop-party-again
 loop-party-again c =
