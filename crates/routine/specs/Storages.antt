@@ -36,6 +36,6 @@ Joined (Ok u) s now = s ≡ Ok now
 Joined (Err e) s now = s ≡ Err e
 
 -- the answer alone
-abbrev pub ended : {A : Type 0} → Result A RoutineFault → Result (Unit {0}) RoutineFault
-ended (Ok x) = Ok tt
-ended (Err e) = Err e
+abbrev pub answerOf : {A : Type 0} → Result A RoutineFault → Result (Unit {0}) RoutineFault
+answerOf (Ok x) = Ok tt
+answerOf (Err e) = Err e

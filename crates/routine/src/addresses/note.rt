@@ -8,8 +8,7 @@ ghost use lib.ListN.{length};
 ghost use Rattle.std.specs.Vec.{made};
 ghost use Rattle.std.specs.shelf.Lists.{leading};
 ghost use Rattle.grammar.specs.Listings.{noted, notedInits, notedIn, notedCode, addressIn};
-ghost use Rattle.routine.specs.Addresses.{notedList, standsAt, under};
-ghost use Rattle.routine.specs.Parties.{listed};
+ghost use Rattle.routine.specs.Addresses.{notedList, standsAt, under, asList};
 use crate::addresses::Addresses;
 use instructions::types::Init;
 use instructions::types::Instruction;
@@ -36,7 +35,7 @@ fn stands_at(list: &[u16], place: usize, address: u16) -> bool
 }
 
 fn address_in(instruction: Instruction) -> Option<u16>
-    ensures { λ r. ⌜ listed r ≡ addressIn instruction ⌝ }
+    ensures { λ r. ⌜ asList r ≡ addressIn instruction ⌝ }
 {
     match instruction {
         Instruction::Load(_, address)

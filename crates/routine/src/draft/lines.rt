@@ -12,7 +12,7 @@ ghost use Rattle.grammar.specs.Reads.{accept, blank, readFrom, readOf, finished
 ghost use Rattle.routine.specs.Addresses.{notedList};
 ghost use Rattle.routine.specs.Drafts.{drafted, ReadInto};
 ghost use Rattle.routine.specs.Routines.{listing};
-ghost use Rattle.routine.specs.Storages.{Joined, ended, listingOf};
+ghost use Rattle.routine.specs.Storages.{Joined, answerOf, listingOf};
 use crate::draft::Draft;
 use crate::party::Party;
 use crate::routine::Routine;
@@ -125,7 +125,7 @@ impl Draft {
 
     // The questions at the text's end.
     pub(crate) fn finish(&mut self) -> Result<(), RoutineFault>
-        ensures answer { λ r. ⌜ r ≡ ended (finished (drafted (now (self .entry)))) ⌝ }
+        ensures answer { λ r. ⌜ r ≡ answerOf (finished (drafted (now (self .entry)))) ⌝ }
         ensures same { λ _. ⌜ drafted (now (self .exit)) ≡ drafted (now (self .entry)) ⌝ }
         ensures noted { λ r. ⌜ made r (λ _. notedList (now (self .exit) .storage .addresses) ≡ addressesOf (listingOf (now (self .entry) .storage))) ⌝ }
     {
