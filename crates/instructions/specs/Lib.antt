@@ -3,3 +3,4 @@ pub mod Faults
 pub mod Keywords
 pub mod Lines
 pub mod Texts
+pub mod Thinning
