@@ -42,10 +42,21 @@ exposed-marked m k e = back-marked m (e .clear) (m .shown (e .last) (e .shows))
 
 -- a rule G that holds at k just where k has no mark
 pub taken-out : (m : ℕ → Bool) (c : Code) (G : ℕ → Type 0) → ((k : ℕ) → G k → m k ≡ false) → ((k : ℕ) → m k ≡ false → G k) → TakenOut G c (thinFrom m 0 c)
-taken-out m c G out in-by = record { long = thin-length m 0 c; goes = goes; stays = stays }
+taken-out m c G out in-by = record { long = thin-length m 0 c; goes = goes; only = only; stays = stays }
   where
     goes : (k : ℕ) → fetch c k ≡ Some Fence → G k → fetch (thinFrom m 0 c) k ≡ Some Nop
     goes k e g = let h = thin-at m 0 c k Fence e in let a = zero-add k in let b = out k g in cc
+
+    only : (k : ℕ) → fetch c k ≡ Some Fence → fetch (thinFrom m 0 c) k ≡ Some Nop → G k
+    only k e f = go (m k) refl
+      where
+        go : (b : Bool) → m k ≡ b → G k
+        go false q = in-by k q
+        go true q =
+            let h = thin-at m 0 c k Fence e in
+            let a = zero-add k in
+            let z : _≡_ {A = ℕ} 0 1 = cc in
+            absurd (omega arith)
 
     stays : (k : ℕ) → ¬ ((fetch c k ≡ Some Fence) × G k) → fetch (thinFrom m 0 c) k ≡ fetch c k
     stays k n = go (fetch c k) refl

@@ -1,64 +1,15 @@
 -- The rules by lists of positions are the rules by Dirty and Exposed.
 use Prim.Native.Nat.{ℕ, suc}
-use native.Mathlib.Omega.{arith}
-use mathlib.Core.Path.{_≡_, refl, _∙_, ap, subst}
+use mathlib.Core.Path.{_≡_, refl, ap, subst}
 use mathlib.Core.Logic.{_⊎_, inl, inr, _↔_}
 use mathlib.Core.List.{List, [], _∷_, _++_, append-assoc}
-use Rattle.std.specs.declared.option.Option.{Option}
-use Rattle.std.specs.declared.option.Option.the-variants.{Some, None}
+use Rattle.std.specs.declared.option.Option.the-variants.{Some}
 use Rattle.instructions.specs.declared.types.Instruction.{Instruction}
-use Rattle.instructions.specs.declared.types.Instruction.the-variants.{Load, Store, Exchange, Fence, Nop, Set, Add, JumpNonzero, Jump}
-use Rattle.instructions.specs.declared.types.Operand.{Operand}
-use Rattle.paths.specs.Paths.{Code, fetch, Follows, Barrier, Road, StoreAt, BarrierAt, Among, Shows}
+use Rattle.instructions.specs.declared.types.Instruction.the-variants.{Store}
+use Rattle.paths.specs.Paths.{Code, fetch, Follows, Barrier, Road, StoreAt, BarrierAt, Among}
 use Rattle.paths.specs.Rules.{Shielded, Screened}
 use Rattle.paths.specs.Marks.{Walk, Bare, Dirty, Exposed}
-
-apart : {P : Type 0} → _≡_ {A = ℕ} 0 1 → P
-apart z = absurd (omega arith)
-
-pub barrier? : (i : Instruction) → Dec (Barrier i)
-barrier? (Load r a) = no (λ x. x)
-barrier? (Store a s) = no (λ x. x)
-barrier? (Exchange r a) = yes tt
-barrier? Fence = yes tt
-barrier? Nop = no (λ x. x)
-barrier? (Set r s) = no (λ x. x)
-barrier? (Add r s) = no (λ x. x)
-barrier? (JumpNonzero r t) = no (λ x. x)
-barrier? (Jump t) = no (λ x. x)
-
-barrier-at? : (c : Code) (k : ℕ) → Dec (BarrierAt c k)
-barrier-at? c k = go (fetch c k) refl
-  where
-    go : (o : Option Instruction) → fetch c k ≡ o → Dec (BarrierAt c k)
-    go None e = no (λ x. let y = x .1 in apart (cc))
-    go (Some i) e = pick (barrier? i)
-      where
-        pick : Dec (Barrier i) → Dec (BarrierAt c k)
-        pick (yes b) = yes (i, e, b)
-        pick (no n) = no (λ x. let y = x .1 in let z : x .0 ≡ i = cc in n (rw z at (x .2)))
-
-store? : (i : Instruction) → Dec ((a : ℕ) × (s : Operand) × (i ≡ Store a s))
-store? (Load r a) = no (λ x. let y = x .2 in apart (cc))
-store? (Store a s) = yes (a, s, refl)
-store? (Exchange r a) = no (λ x. let y = x .2 in apart (cc))
-store? Fence = no (λ x. let y = x .2 in apart (cc))
-store? Nop = no (λ x. let y = x .2 in apart (cc))
-store? (Set r s) = no (λ x. let y = x .2 in apart (cc))
-store? (Add r s) = no (λ x. let y = x .2 in apart (cc))
-store? (JumpNonzero r t) = no (λ x. let y = x .2 in apart (cc))
-store? (Jump t) = no (λ x. let y = x .2 in apart (cc))
-
-store-at? : (c : Code) (k : ℕ) → Dec (StoreAt c k)
-store-at? c k = go (fetch c k) refl
-  where
-    go : (o : Option Instruction) → fetch c k ≡ o → Dec (StoreAt c k)
-    go None e = no (λ x. let y = x .2 in apart (cc))
-    go (Some i) e = pick (store? i)
-      where
-        pick : Dec ((a : ℕ) × (s : Operand) × (i ≡ Store a s)) → Dec (StoreAt c k)
-        pick (yes b) = yes (b .0, b .1, e ∙ ap {B = Option Instruction} Some (b .2))
-        pick (no n) = no (λ x. let y = x .2 in n (x .0, x .1, cc))
+use Rattle.paths.proofs.Standing.{barrier?, at?, store-at?}
 
 among? : (P : ℕ → Type 0) → ((k : ℕ) → Dec (P k)) → (ks : List ℕ) → Dec (Among P ks)
 among? P d [] = no (λ x. x)
@@ -142,7 +93,7 @@ shielded-clean c k h d = go (among? (StoreAt c) (store-at? c) (b .0))
         b .2 (rw (l .all) (among-right (BarrierAt c) (l .us) (l .b ∷ l .vs) (inr x)))
 
 clean-shielded : (c : Code) (k : ℕ) → ¬ Dirty c k → Shielded c k
-clean-shielded c k n xs ys a r s z = go (among? (BarrierAt c) (barrier-at? c) ys)
+clean-shielded c k n xs ys a r s z = go (among? (BarrierAt c) (at? c Barrier barrier?) ys)
   where
     x : Split c 0 a ys k
     x = road-split c 0 xs a ys k r
@@ -156,7 +107,7 @@ screened-hidden : (c : Code) (k : ℕ) → Screened c k → ¬ Exposed c k
 screened-hidden c k h e = let x = bare-road (e .clear) in x .2 (h (x .0) (e .last) (x .1) (e .shows))
 
 hidden-screened : (c : Code) (k : ℕ) → ¬ Exposed c k → Screened c k
-hidden-screened c k n ks l r s = go (among? (BarrierAt c) (barrier-at? c) ks)
+hidden-screened c k n ks l r s = go (among? (BarrierAt c) (at? c Barrier barrier?) ks)
   where
     go : Dec (Among (BarrierAt c) ks) → Among (BarrierAt c) ks
     go (yes b) = b

@@ -19,6 +19,7 @@ Screened c k = (ks : List ℕ) (l : ℕ) → Road c k ks l → Shows c l → Amo
 pub record TakenOut (G : ℕ → Type 0) (c t : Code) : Type 0 where
   pub long : length t ≡ length c
   pub goes : (k : ℕ) → fetch c k ≡ Some Fence → G k → fetch t k ≡ Some Nop
+  pub only : (k : ℕ) → fetch c k ≡ Some Fence → fetch t k ≡ Some Nop → G k
   pub stays : (k : ℕ) → ¬ ((fetch c k ≡ Some Fence) × G k) → fetch t k ≡ fetch c k
 
 -- the forward pass: a fence goes where every waiting write has met a barrier before

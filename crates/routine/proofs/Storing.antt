@@ -5,9 +5,13 @@ use Prim.Native.Nat.{ℕ, suc, _+_, _-_, _≤_, _<_}
 use native.Mathlib.Omega.{arith}
 use lib.Dec.{ltb}
 use lib.ListN.{length, getD, take, set}
-use Rattle.std.proofs.shelf.Lists.{map-set, take-more-set, take-map, length-map}
+use Rattle.std.specs.Of.Vec.{vec-items}
+use Rattle.std.proofs.shelf.Lists.{map-set, take-more-set, take-map, length-map, length-take-le}
 use Rattle.instructions.specs.declared.types.Init.{Init}
 use Rattle.grammar.specs.Reads.{above}
+use Rattle.routine.specs.Parties.{codeOf}
+use Rattle.routine.specs.Storages.{initsOf, partiesOf, listingOf}
+use Rattle.routine.specs.declared.storage.Storage.{Storage}
 
 -- only the last INIT line is asked
 pub above-last : (a : ℕ) (is : List Init) (d : Init) → 0 < length is → above a is ≡ ltb (getD is (length is - 1) d .address) a
@@ -26,3 +30,10 @@ pub part-in-use : {X Y : Type 0} (f : X → Y) (n : ℕ) (xs ys : List X) → xs
 part-in-use f n xs ys e =
     let z : n - 0 ≡ n = omega arith in
     (λ i. map f (take (z i) (e i))) ∙ sym (take-map f n ys)
+
+-- as many parties are in use as the count says
+pub count-in-use : (s : Storage) → length (partiesOf s) ≡ s .count
+count-in-use s = length-take-le (s .count) (map codeOf (vec-items (s .parties))) (simp length-map (omega (arith, s .within, s .four, s .parties .ok .0)))
+
+pub same-listing : (s t : Storage) → initsOf s ≡ initsOf t → partiesOf s ≡ partiesOf t → listingOf s ≡ listingOf t
+same-listing s t p q = λ j. record { inits = p j; parties = q j }

@@ -5,3 +5,4 @@ pub mod Parties
 pub mod Routines
 pub mod Stages
 pub mod Storages
+pub mod Thins

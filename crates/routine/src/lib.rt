@@ -4,5 +4,6 @@ mod draft;
 pub mod fresh;
 pub mod party;
 pub mod read;
+pub mod room;
 pub mod routine;
 mod storage;

@@ -4,6 +4,8 @@ ghost use Rattle.std.specs.Of.Vec.{vec-cap};
 use instructions::types::Instruction;
 
 mod code;
+mod copy;
+mod thin;
 
 // It has room for the 32 instructions that a party may have.
 #[derive(Drop)]

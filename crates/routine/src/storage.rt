@@ -6,7 +6,9 @@ use crate::addresses::Addresses;
 use crate::party::Party;
 use instructions::types::Init;
 
+mod copy;
 mod fill;
+mod thin;
 
 // Of the four parties, the first `count` are in use.
 #[derive(Drop)]

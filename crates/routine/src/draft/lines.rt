@@ -15,6 +15,7 @@ ghost use Rattle.routine.specs.Routines.{listing};
 ghost use Rattle.routine.specs.Storages.{Joined, answerOf, listingOf};
 use crate::draft::Draft;
 use crate::party::Party;
+use crate::room::Room;
 use crate::routine::Routine;
 use crate::storage::Storage;
 use fields::reader::Reader;
@@ -155,5 +156,18 @@ impl Draft {
         ensures { λ _. ⌜ listing (now (routine .exit)) ≡ listingOf (now (self .entry) .storage) ⌝ }
     {
         routine.exchange(&mut self.storage);
+    }
+
+    // Its room, for another use.
+    pub(crate) fn into_room(self) -> Room {
+        let Draft {
+            storage,
+            current,
+            stage: _,
+        } = self;
+        Room {
+            storage,
+            spare: current,
+        }
     }
 }

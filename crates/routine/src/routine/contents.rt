@@ -8,7 +8,9 @@ ghost use Rattle.routine.specs.Addresses.{notedList};
 ghost use Rattle.routine.specs.Parties.{codeOf};
 ghost use Rattle.routine.specs.Routines.{listing, oneNop};
 ghost use Rattle.routine.specs.Storages.{listingOf};
+ghost use Rattle.routine.specs.Thins.{marked, thinnedAt};
 use crate::party::Party;
+use crate::room::Room;
 use crate::routine::Routine;
 use crate::storage::Storage;
 use instructions::types::Init;
@@ -48,5 +50,24 @@ impl Routine {
         ensures { λ _. ⌜ listing (now (self .exit)) ≡ listingOf (now (storage .entry)) ⌝ }
     {
         mem::swap(&mut self.storage, storage);
+    }
+
+    // A copy of it, in that room.
+    pub fn copy_in(&self, room: Room) -> Routine
+        ensures { λ r. ⌜ listing r ≡ listing (now (self .entry)) ⌝ }
+    {
+        let Room {
+            mut storage,
+            mut spare,
+        } = room;
+        storage.copy(&self.storage, &mut spare);
+        Routine { storage }
+    }
+
+    // Each MFENCE of the party becomes NOP where no mark says that it stays; without such a party nothing changes.
+    pub fn thin(&mut self, party: usize, stays: &[bool])
+        ensures { λ _. ⌜ listing (now (self .exit)) ≡ thinnedAt party (marked (now (stays .entry))) (listing (now (self .entry))) ⌝ }
+    {
+        self.storage.thin(party, stays);
     }
 }

@@ -1,0 +1,11 @@
+pub mod Applied
+pub mod Cleared
+pub mod Copied
+pub mod Fetches
+pub mod Leading
+pub mod Lawful
+pub mod Rounds
+pub mod Shifted
+pub mod Spreads
+pub mod Sweeps
+pub mod Ways

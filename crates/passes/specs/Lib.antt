@@ -1,0 +1,4 @@
+pub mod Arrivals
+pub mod Local
+pub mod Marked
+pub mod Passes
