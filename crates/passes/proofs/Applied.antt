@@ -30,10 +30,11 @@ pub record Partly (pass : Pass) (l m : Listing) (n : ℕ) : Type 0 where
 
 pub partly-none : (pass : Pass) (l m : Listing) → m ≡ l → Partly pass l m 0
 partly-none pass l m e = record {
-    inits = ap (λ (q : Listing). q .inits) e;
-    count = ap (λ (q : Listing). length (q .parties)) e;
-    done = λ p h. absurd (omega arith);
-    todo = λ p h. ap (λ (q : Listing). codeAt q p) e }
+  inits = ap (λ (q : Listing). q .inits) e;
+  count = ap (λ (q : Listing). length (q .parties)) e;
+  done = λ p h. absurd (omega arith);
+  todo = λ p h. ap (λ (q : Listing). codeAt q p) e;
+}
 
 module _ (pass : Pass) (l m k : Listing) (n : ℕ) (marks : ℕ → Bool) (low : n < length (l .parties)) (so : Partly pass l m n) (is : k ≡ thinnedAt n marks m) where
   here : codeAt k n ≡ thinFrom marks 0 (codeAt l n)
@@ -47,13 +48,14 @@ module _ (pass : Pass) (l m k : Listing) (n : ℕ) (marks : ℕ → Bool) (low :
 
   pub partly-more : TakenOut (RuleOf pass (codeAt l n)) (codeAt l n) (thinFrom marks 0 (codeAt l n)) → Partly pass l k (n + 1)
   partly-more out = record {
-      inits = ap (λ (q : Listing). q .inits) is ∙ so .inits;
-      count = ap (λ (q : Listing). length (q .parties)) is ∙ length-set (m .parties) n (thinFrom marks 0 (codeAt m n)) ∙ so .count;
-      done = λ p h. ⊎-elim
+    inits = ap (λ (q : Listing). q .inits) is ∙ so .inits;
+    count = ap (λ (q : Listing). length (q .parties)) is ∙ length-set (m .parties) n (thinFrom marks 0 (codeAt m n)) ∙ so .count;
+    done = λ p h. ⊎-elim
         (λ e. subst (λ p. TakenOut (RuleOf pass (codeAt l p)) (codeAt l p) (codeAt k p)) (sym e) (subst (TakenOut (RuleOf pass (codeAt l n)) (codeAt l n)) (sym here) out))
         (λ ne. subst (TakenOut (RuleOf pass (codeAt l p)) (codeAt l p)) (sym (elsewhere p ne)) (so .done p (omega arith)))
         (cases-eq p n);
-      todo = λ p h. elsewhere p (λ e. omega (arith, e)) ∙ so .todo p (omega arith) }
+    todo = λ p h. elsewhere p (λ e. omega (arith, e)) ∙ so .todo p (omega arith);
+  }
 
 clash : {P : Type 0} → _≡_ {A = ℕ} 0 1 → P
 clash z = absurd (omega arith)
@@ -64,13 +66,14 @@ none-out G = record { long = refl; goes = λ k e g. clash (cc); only = λ k e f.
 
 pub partly-all : (pass : Pass) (l m : Listing) (n : ℕ) → length (l .parties) ≤ n → Partly pass l m n → PassedBy pass l m
 partly-all pass l m n high so = record {
-    inits = so .inits;
-    count = so .count;
-    each = λ p. ⊎-elim (so .done p) (λ h.
-        let a = getD-past (l .parties) p [] (omega arith) in
-        let b = getD-past (m .parties) p [] (omega (arith, so .count)) in
-        subst (λ c. TakenOut (RuleOf pass c) c (codeAt m p)) (sym a) (subst (TakenOut (RuleOf pass []) []) (sym b) (none-out (RuleOf pass []))))
-      (cases-lt p n) }
+  inits = so .inits;
+  count = so .count;
+  each = λ p. ⊎-elim (so .done p) (λ h.
+      let a = getD-past (l .parties) p [] (omega arith) in
+      let b = getD-past (m .parties) p [] (omega (arith, so .count)) in
+      subst (λ c. TakenOut (RuleOf pass c) c (codeAt m p)) (sym a) (subst (TakenOut (RuleOf pass []) []) (sym b) (none-out (RuleOf pass []))))
+      (cases-lt p n);
+}
 
 lawful-at : (ps : List Code) (p : ℕ) → p < length ps → partiesLawful ps ≡ true → partyLawful (getD ps p []) ≡ true
 lawful-at [] p h e = absurd (omega arith)

@@ -1,16 +1,14 @@
 -- Marks of the positions after.
-use mathlib.Core.Path.{_≡_, refl, sym, ap, subst, _∙_}
+use mathlib.Core.Path.{_≡_, sym, subst, _∙_}
 use mathlib.Core.Logic.{_≢_}
 use mathlib.Core.Bool.{Bool, true, false}
 use mathlib.Core.List.{List}
 use Prim.Native.Nat.{ℕ, suc, _+_, _≤_, _<_}
 use native.Mathlib.Nat.{zero-add}
-use native.Mathlib.Numerals.{add-one}
 use native.Mathlib.Omega.{arith}
 use borrow.Author.Count.{below-more}
 use lib.ListN.{length, getD, set}
 use lib.Seq.{getD-set-same, getD-set-other}
-use Rattle.std.proofs.shelf.Lists.{getD-default}
 use Rattle.instructions.specs.Thinning.{thinFrom}
 use Rattle.paths.specs.Marks.{BackwardMarks}
 use Rattle.paths.specs.Paths.{Code}
@@ -21,11 +19,11 @@ use Rattle.passes.specs.Marked.{exposedMarks}
 use Rattle.routine.specs.Thins.{marked}
 
 -- one position more
-pub shift-more : (stays marks : List Bool) (k : ℕ) (v : Bool) → k + 1 < length marks → k < length stays → v ≡ getD marks (k + 1) false → ((j : ℕ) → j < k → getD stays j false ≡ getD marks (suc j) true) → (j : ℕ) → j < k + 1 → getD (set stays k v) j false ≡ getD marks (suc j) true
-shift-more stays marks k v high low is inv =
+pub shift-more : (stays marks : List Bool) (k : ℕ) (v : Bool) → k < length stays → v ≡ getD marks (suc k) true → ((j : ℕ) → j < k → getD stays j false ≡ getD marks (suc j) true) → (j : ℕ) → j < k + 1 → getD (set stays k v) j false ≡ getD marks (suc j) true
+shift-more stays marks k v low is inv =
     below-more _ _
     (λ j h. let ne : j ≢ k = omega arith in getD-set-other stays k j v false ne ∙ inv j h)
-    (getD-set-same stays k v false low ∙ is ∙ getD-default marks (k + 1) false true high ∙ ap (λ n. getD marks n true) (add-one k))
+    (getD-set-same stays k v false low ∙ is)
 
 pub shift-decides : (c : Code) (stays marks : List Bool) → length c ≤ 32 → BackwardMarks c (exposedMarks marks) → ((j : ℕ) → j < 32 → getD stays j false ≡ getD marks (suc j) true) → BackwardOf c (thinFrom (marked stays) 0 c)
 shift-decides c stays marks short bm same =

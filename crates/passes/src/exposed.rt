@@ -1,7 +1,7 @@
 // The marks of the backward rule: the positions from which a path with no barrier leads to where a write shows.
 ghost use mathlib.Core.Path.{_≡_};
 ghost use mathlib.Core.Bool.{true, false};
-ghost use Prim.Native.Nat.{ℕ, _<_, _≤_};
+ghost use Prim.Native.Nat.{ℕ, suc, _<_, _≤_};
 ghost use lib.ListN.{length};
 ghost use Rattle.paths.specs.Marks.{BackwardMarks};
 ghost use Rattle.passes.specs.Local.{Exposes, Settled, look, unmarked};
@@ -89,6 +89,14 @@ pub(crate) fn exposed(code: &[Instruction]) -> [bool; 33]
     marks
 }
 
+// The mark at the next position.
+fn mark_after(marks: &[bool], k: usize) -> bool
+    requires { ⌜ k < 32 ⌝ }
+    ensures { λ r. ⌜ r ≡ exposedMarks (now (marks .entry)) (suc k) ⌝ }
+{
+    mark(marks, k + 1)
+}
+
 // Marks each position after which a write can show: there a fence stays.
 pub(crate) fn exposed_after(code: &[Instruction]) -> [bool; 33]
     requires { ⌜ length (now code) ≤ 32 ⌝ }
@@ -97,7 +105,7 @@ pub(crate) fn exposed_after(code: &[Instruction]) -> [bool; 33]
     let marks = exposed(code);
     let mut stays = [true; 33];
     for k in 0..32 {
-        stays[k] = marks[k + 1];
+        stays[k] = mark_after(&marks, k);
     }
     stays
 }

@@ -75,10 +75,11 @@ marks-decide = (forward, backward)
     forward : (c : Code) (r d : ℕ → Bool) → ForwardMarks c r d → ForwardOf c (thinFrom d 0 c)
     forward c r d m =
         taken-out d c (Shielded c)
-            (λ k s. unmarked (d k) (λ t. shielded-is c k .0 s (m .dirtied k t)))
-            (λ k f. shielded-is c k .1 (λ x. clash (dirty-marked m k x) f))
+        (λ k s. unmarked (d k) (λ t. shielded-is c k .0 s (m .dirtied k t)))
+        (λ k f. shielded-is c k .1 (λ x. clash (dirty-marked m k x) f))
+
     backward : (c : Code) (x : ℕ → Bool) → BackwardMarks c x → BackwardOf c (thinFrom (λ k. x (suc k)) 0 c)
     backward c x m =
         taken-out (λ k. x (suc k)) c (λ k. Screened c (suc k))
-            (λ k s. unmarked (x (suc k)) (λ t. screened-is c (suc k) .0 s (m .exposed (suc k) t)))
-            (λ k f. screened-is c (suc k) .1 (λ e. clash (exposed-marked m (suc k) e) f))
+        (λ k s. unmarked (x (suc k)) (λ t. screened-is c (suc k) .0 s (m .exposed (suc k) t)))
+        (λ k f. screened-is c (suc k) .1 (λ e. clash (exposed-marked m (suc k) e) f))

@@ -20,12 +20,15 @@ next? P d i k = go i
   where
     one : (x : ℕ) → Dec ((j : ℕ) × (j ≡ x) × P j)
     one x = change? (λ p. (x, refl, p)) (λ y. let e = y .1 in rw e at (y .2)) (d x)
+
     two : {A B : ℕ → Type 0} → ((j : ℕ) × A j × P j) ⊎ ((j : ℕ) × B j × P j) → (j : ℕ) × (A j ⊎ B j) × P j
     two (inl x) = (x .0, inl (x .1), x .2)
     two (inr x) = (x .0, inr (x .1), x .2)
+
     apart-two : {A B : ℕ → Type 0} → (j : ℕ) × (A j ⊎ B j) × P j → ((j : ℕ) × A j × P j) ⊎ ((j : ℕ) × B j × P j)
     apart-two (j, inl a, p) = inl (j, a, p)
     apart-two (j, inr b, p) = inr (j, b, p)
+
     go : (i : Instruction) → Dec (Next P i k)
     go (Load r a) = one (suc k)
     go (Store a s) = one (suc k)

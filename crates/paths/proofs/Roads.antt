@@ -80,10 +80,13 @@ shielded-clean c k h d = go (among? (StoreAt c) (store-at? c) (b .0))
   where
     a : (ks : List ℕ) × Road c 0 ks (d .from)
     a = walk-road (d .reach)
+
     b : (ks : List ℕ) × Road c (suc (d .from)) ks k × (¬ Among (BarrierAt c) ks)
     b = bare-road (d .clear)
+
     r : Road c 0 (a .0 ++ (d .from ∷ b .0)) k
     r = road-join (d .from ∷ b .0) (a .1) (Road.step (Store (d .address) (d .source)) (d .store) refl (b .1))
+
     go : Dec (Among (StoreAt c) (b .0)) → ⊥
     go (no n) = b .2 (h (a .0) (b .0) (d .from) r (d .address, d .source, d .store) n)
     go (yes s) =
@@ -97,8 +100,10 @@ clean-shielded c k n xs ys a r s z = go (among? (BarrierAt c) (at? c Barrier bar
   where
     x : Split c 0 a ys k
     x = road-split c 0 xs a ys k r
+
     j-is : x .j ≡ suc a
     j-is = let p = x .at in let q = s .2 in let e : x .i ≡ Store (s .0) (s .1) = cc in subst (λ (i : Instruction). Follows i a (x .j)) e (x .on)
+
     go : Dec (Among (BarrierAt c) ys) → Among (BarrierAt c) ys
     go (yes b) = b
     go (no b) = absurd (n (record { from = a; address = s .0; source = s .1; reach = x .to; store = s .2; clear = rw j-is at (road-bare (x .after) b) }))

@@ -41,6 +41,7 @@ taken-is G m c t u x = same-fetches t (thinFrom m 0 c) (λ k. at k (fence-at? c 
         let a = zero-add k in
         let s = x .stays k (λ g. let n = u .goes k f (g .1) in let z : _≡_ {A = ℕ} 0 1 = cc in omega arith) in
         cc
+
     at : (k : ℕ) → Dec (fetch c k ≡ Some Fence) → fetch t k ≡ fetch (thinFrom m 0 c) k
     at k (yes f) = fenced k (m k) refl f
     at k (no n) = x .stays k (λ g. n (g .0)) ∙ sym (u .stays k (λ g. n (g .0)))
@@ -105,17 +106,19 @@ exposed c = near-holds c Clear (Shows c) (Exposed c) (λ k s. record { last = k;
 
 forward-marks : (c : Code) → ¬ Leak c Any (Reached c) → ¬ Leak c Clear (Soiled c) → ForwardMarks c (λ k. sure (reached? c k)) (λ k. sure (soiled? c k))
 forward-marks c r d = record {
-    start = sure-in (reached? c 0) (near-at c Any (λ l. l ≡ 0) (length c) 0 refl);
-    go = λ k j i f w h. sure-in (reached? c j) (leaves-none c Any (Reached c) (reached? c) r k j i f tt w (sure-out (reached? c k) h));
-    put = λ k a s f h. sure-in (soiled? c (suc k)) (k, fetch-below c k _ f, ((a, s, f), (sure-out (reached? c k) h, near-at c Clear (λ l. l ≡ suc k) (length c) (suc k) refl)));
-    on = λ k j i f o w h. sure-in (soiled? c j) (leaves-none c Clear (Soiled c) (soiled? c) d k j i f o w (sure-out (soiled? c k) h));
-    dirtied = λ k h. dirty c k (sure-out (soiled? c k) h) }
+  start = sure-in (reached? c 0) (near-at c Any (λ l. l ≡ 0) (length c) 0 refl);
+  go = λ k j i f w h. sure-in (reached? c j) (leaves-none c Any (Reached c) (reached? c) r k j i f tt w (sure-out (reached? c k) h));
+  put = λ k a s f h. sure-in (soiled? c (suc k)) (k, fetch-below c k _ f, ((a, s, f), (sure-out (reached? c k) h, near-at c Clear (λ l. l ≡ suc k) (length c) (suc k) refl)));
+  on = λ k j i f o w h. sure-in (soiled? c j) (leaves-none c Clear (Soiled c) (soiled? c) d k j i f o w (sure-out (soiled? c k) h));
+  dirtied = λ k h. dirty c k (sure-out (soiled? c k) h);
+}
 
 backward-marks : (c : Code) → ¬ Gap c → BackwardMarks c (λ k. sure (seen? c k))
 backward-marks c n = record {
-    shown = λ k s. sure-in (seen? c k) (near-at c Clear (Shows c) (length c) k s);
-    back = back;
-    exposed = λ k h. exposed c k (sure-out (seen? c k) h) }
+  shown = λ k s. sure-in (seen? c k) (near-at c Clear (Shows c) (length c) k s);
+  back = back;
+  exposed = λ k h. exposed c k (sure-out (seen? c k) h);
+}
   where
     back : (k j : ℕ) (i : Instruction) → fetch c k ≡ Some i → ¬ Barrier i → Follows i k j → sure (seen? c j) ≡ true → sure (seen? c k) ≡ true
     back k j i f o w h = go (seen? c k)
@@ -136,6 +139,7 @@ thins-to c h e f t F T = last (rw one at T) ∙ e
   where
     one : f ≡ forward (c .code)
     one = taken-is (Shielded (c .code)) _ (c .code) f (marks-decide .0 (c .code) _ _ (forward-marks (c .code) (h .0) (h .1 .0))) F
+
     last : BackwardOf (forward (c .code)) t → t ≡ backward (forward (c .code))
     last x = taken-is (λ k. Screened (forward (c .code)) (suc k)) _ (forward (c .code)) t (marks-decide .1 (forward (c .code)) _ (backward-marks (forward (c .code)) (h .1 .1))) x
 

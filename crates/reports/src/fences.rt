@@ -50,12 +50,7 @@ fn fault_report(heap: Global, fault: RoutineFault) -> Result<Vec<u8>, AllocError
     Ok(line.into_bytes())
 }
 
-fn fence_line(
-    heap: Global,
-    party: usize,
-    before: usize,
-    after: usize,
-) -> Result<String, AllocError>
+fn fence_line(heap: Global, party: usize, before: usize, after: usize) -> Result<String, AllocError>
     ensures { λ r. ⌜ made r (λ s. string-bytes s ≡ fenceLine party before after) ⌝ }
 {
     format!(heap, "FENCES {party} {before} {after}\n")
@@ -117,12 +112,7 @@ fn fate_of(forward: Instruction, thinned: Instruction) -> &'static str
     }
 }
 
-fn fate_line(
-    heap: Global,
-    party: usize,
-    position: usize,
-    fate: &str,
-) -> Result<String, AllocError>
+fn fate_line(heap: Global, party: usize, position: usize, fate: &str) -> Result<String, AllocError>
     ensures { λ r. ⌜ made r (λ s. string-bytes s ≡ codes "FENCE " ++ (decimal party ++ (32 ∷ (decimal position ++ (32 ∷ (now (fate .entry) ++ (10 ∷ []))))))) ⌝ }
 {
     format!(heap, "FENCE {party} {position} {fate}\n")
