@@ -19,7 +19,7 @@ use Rattle.paths.specs.Marks.{Walk}
 use Rattle.passes.specs.declared.dirty.Arrival.{Arrival}
 use Rattle.passes.specs.declared.dirty.Arrival.the-variants as arrival
 use Rattle.passes.specs.Arrivals.{arrivalAt, Good, Arrives, Short}
-use Rattle.passes.proofs.Fetches.{fetch-below}
+use Rattle.paths.proofs.Fetches.{fetch-below}
 use Rattle.passes.proofs.Leading.{apart}
 
 target-at : (n : ℕ) (c : Code) (k : ℕ) (i : Instruction) → targetsWithin n c ≡ true → fetch c k ≡ Some i → targetWithin n i ≡ true

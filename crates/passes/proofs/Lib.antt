@@ -1,7 +1,6 @@
 pub mod Applied
 pub mod Cleared
 pub mod Copied
-pub mod Fetches
 pub mod Leading
 pub mod Lawful
 pub mod Rounds

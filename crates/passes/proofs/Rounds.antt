@@ -21,7 +21,7 @@ use Rattle.passes.specs.Arrivals.{arrivalAt, rankOf, isReached, isDirty, after
 use Rattle.passes.specs.Local.{nextOf, isStore, isBarrier, Leads}
 use Rattle.passes.specs.Marked.{DirtyMarks}
 use Rattle.routine.specs.Thins.{marked}
-use Rattle.passes.proofs.Fetches.{fetch-below}
+use Rattle.paths.proofs.Fetches.{fetch-below}
 use Rattle.passes.proofs.Leading.{apart, leads, follows, is-no-barrier}
 use Rattle.passes.proofs.Ways.{good-step}
 

@@ -18,7 +18,7 @@ use Rattle.paths.specs.Paths.{Code, fetch, Follows, Barrier, Shows}
 use Rattle.paths.specs.Marks.{Bare, Exposed, BackwardMarks}
 use Rattle.passes.specs.Local.{nextOf, isLoad, isBarrier, some, look, Exposes, Settled, unmarked}
 use Rattle.passes.specs.Marked.{exposedMarks}
-use Rattle.passes.proofs.Fetches.{fetch-at, fetch-end, fetch-below}
+use Rattle.paths.proofs.Fetches.{fetch-at, fetch-end, fetch-below}
 use Rattle.passes.proofs.Leading.{apart, leads, follows, no-barrier, is-no-barrier, load-shows, Marks, some-marks, marks-some}
 
 pub record Swept (c : Code) (m₀ m : List Bool) (ch : Bool) (k : ℕ) : Type 0 where

@@ -1,7 +1,7 @@
 use Prim.Native.Nat.{_<_}
 use native.Mathlib.Omega.{arith}
 use lib.ListN.{length}
-use Rattle.passes.proofs.Fetches.{fetch-at}
+use Rattle.paths.proofs.Fetches.{fetch-at}
 use Rattle.passes.proofs.Rounds.{leads-within, spread-at, round-raised, round-same}
 use Rattle.passes.proofs.dirty.sweep.Needs as need
 use Rattle.passes.proofs.dirty.sweep.Needs.{then-spread, else-spread}
