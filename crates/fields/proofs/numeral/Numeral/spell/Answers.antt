@@ -12,11 +12,11 @@ loop-rest-init c =
     let small : c.args.n < 2 ^ 32 = omega (arith, c.ranges.n) in
     (append-nil _, length-decimal-le 10 c.args.n (omega arith) (omega arith) (omega arith), omega arith, refl, small)
 
-pub overflow-sub-start : goal.overflow-sub-start
-overflow-sub-start c = omega (arith, c.loop-rest.invariant.1, decimal_nonempty c.loop-rest.rest (omega (arith, c.loop-rest.invariant.4)))
+pub overflow_sub-start : goal.overflow_sub-start
+overflow_sub-start c = omega (arith, c.loop-rest.invariant.1, decimal_nonempty c.loop-rest.rest (omega (arith, c.loop-rest.invariant.4)))
 
-pub overflow-sub-start-2 : goal.overflow-sub-start-2
-overflow-sub-start-2 c = omega (arith, c.loop-rest.invariant.1, decimal_nonempty c.loop-rest.rest (omega (arith, c.loop-rest.invariant.4)))
+pub overflow_sub-start-2 : goal.overflow_sub-start-2
+overflow_sub-start-2 c = omega (arith, c.loop-rest.invariant.1, decimal_nonempty c.loop-rest.rest (omega (arith, c.loop-rest.invariant.4)))
 
 pub loop-rest-preserved : goal.loop-rest-preserved
 loop-rest-preserved c =

@@ -6,8 +6,8 @@ use Rattle.fields.proofs.Fields.{stretch_length, next_field_more, next_field_las
 use Rattle.fields.proofs.reader.Reader.cut_field.Goals as goal
 use Rattle.fields.proofs.reader.Reader.cut_field.Goals.{then-n-rest, else-n-rest}
 
-pub invariant-of-self : goal.invariant-of-self
-invariant-of-self c =
+pub invariant_of-self : goal.invariant_of-self
+invariant_of-self c =
     let r = c.args.self.now in
     let n = c.run-to-n.result in
     let len = stretch_length r.text.now r.place r.stop r.place_within r.stop_within in
@@ -17,6 +17,6 @@ invariant-of-self c =
 
 pub returns : goal.returns
 returns c = elim c.if-n-rest.branch [
-  | then-n-rest w ↦ next_field_more c.args.self.now c.if-n-rest.self _ c.run-to-n.result c.if-not-self.false refl c.run-to-n.ensures.is (ap (λ (q : Reader). q.text.now) w.self-is) (ap (λ (q : Reader). q.line) w.self-is) (ap (λ (q : Reader). q.next) w.self-is) w.if-n-rest.true (ap (λ (q : Reader). q.place) w.self-is) (ap (λ (q : Reader). q.stop) w.self-is) (ap (λ (q : Reader). q.more) w.self-is)
-  | else-n-rest w ↦ next_field_last c.args.self.now c.if-n-rest.self _ c.run-to-n.result c.if-not-self.false refl c.run-to-n.ensures.is (ap (λ (q : Reader). q.text.now) w.self-is) (ap (λ (q : Reader). q.line) w.self-is) (ap (λ (q : Reader). q.next) w.self-is) w.if-n-rest.false (ap (λ (q : Reader). q.more) w.self-is)
+  | then-n-rest w ↦ next_field_more c.args.self.now c.if-n-rest.self _ c.run_to-n.result c.if-not-self.false refl c.run_to-n.ensures.is (ap (λ (q : Reader). q.text.now) w.self-is) (ap (λ (q : Reader). q.line) w.self-is) (ap (λ (q : Reader). q.next) w.self-is) w.if-n-rest.true (ap (λ (q : Reader). q.place) w.self-is) (ap (λ (q : Reader). q.stop) w.self-is) (ap (λ (q : Reader). q.more) w.self-is)
+  | else-n-rest w ↦ next_field_last c.args.self.now c.if-n-rest.self _ c.run_to-n.result c.if-not-self.false refl c.run_to-n.ensures.is (ap (λ (q : Reader). q.text.now) w.self-is) (ap (λ (q : Reader). q.line) w.self-is) (ap (λ (q : Reader). q.next) w.self-is) w.if-n-rest.false (ap (λ (q : Reader). q.more) w.self-is)
 ]

@@ -5,14 +5,14 @@ use Rattle.fields.proofs.Answered.{cut_line}
 use Rattle.fields.proofs.Counting.{newlines_line, newlines_past}
 use Rattle.fields.proofs.reader.Reader.enter.Goals as goal
 
-pub overflow-add-self-2 : goal.overflow-add-self-2
-overflow-add-self-2 c = omega (arith, c.requires.ends, length-drop c.args.self.now.next c.args.self.now.text.now, c.fits-self)
+pub overflow_add-self-2 : goal.overflow_add-self-2
+overflow_add-self-2 c = omega (arith, c.requires.ends, length-drop c.args.self.now.next c.args.self.now.text.now, c.fits-self)
 
-pub overflow-add-self-3 : goal.overflow-add-self-3
-overflow-add-self-3 c = omega (arith, c.requires.ends, length-drop c.args.self.now.next c.args.self.now.text.now, c.fits-self)
+pub overflow_add-self-3 : goal.overflow_add-self-3
+overflow_add-self-3 c = omega (arith, c.requires.ends, length-drop c.args.self.now.next c.args.self.now.text.now, c.fits-self)
 
-pub invariant-of-self : goal.invariant-of-self
-invariant-of-self c =
+pub invariant_of-self : goal.invariant_of-self
+invariant_of-self c =
     let text = c.args.self.now.text.now in
     let next = c.args.self.now.next in
     let n = c.args.len in
