@@ -1,4 +1,7 @@
 // Prints how many fences each party of routine.txt has and then the routine, or the fault of its text.
+
+#![tactic(auto)]
+
 use anyhow::anyhow;
 use files::read_up_to;
 use reports::fences::fences;

@@ -1,11 +1,10 @@
 -- A field cut off the current line.
-use Rattle.std.proofs.Common.{◌≡◌, ℕ, suc, ◌+◌, ◌-◌, ◌<◌, ◌≤◌, min, Bool, true, false, cond, List, [], ◌∷◌, length, take, drop, sym, refl, ap, ◌∙◌, arith}
+use Rattle.std.proofs.Common.{◌≡◌, ℕ, ◌+◌, ◌-◌, ◌<◌, ◌≤◌, true, false, List, [], ◌∷◌, length, take, drop, sym, ap, ◌∙◌, arith}
 use Rattle.std.specs.List.{prefix_len}
-use Rattle.std.proofs.lemmas.List.{length-drop, length-take, length-take-le, drop-drop, take-take, take_all, drop-take}
+use Rattle.std.proofs.lemmas.List.{length-drop, length-take-le, drop-drop, take-take, take_all, drop-take}
 use Rattle.std.proofs.lemmas.List.Sums.{prefix_len-le-length}
 use Rattle.std.proofs.lemmas.Bool.{cond-true, cond-false}
 use Rattle.fields.specs.declared.reader.Reader.{Reader}
-use Rattle.fields.specs.Newlines.{newlines}
 use Rattle.fields.specs.Pieces.{pieces, other}
 use Rattle.fields.specs.Readers.{fields_left, NextField}
 use Rattle.fields.specs.Tokens.{At}

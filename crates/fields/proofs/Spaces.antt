@@ -1,5 +1,5 @@
 -- Empty fields, found byte by byte.
-use Rattle.std.proofs.Common.{◌≡◌, ℕ, Bool, true, false, cond, not, eqb, List, [], ◌∷◌, sym, refl, ap, ◌∙◌}
+use Rattle.std.proofs.Common.{◌≡◌, ℕ, Bool, true, false, cond, not, eqb, List, [], ◌∷◌, sym, refl, ◌∙◌}
 use Rattle.fields.specs.Lines.{all_some}
 use Rattle.fields.specs.Pieces.{pieces, on_first}
 

@@ -1,5 +1,4 @@
 -- What is told of a fault of the lexical layer.
-use Rattle.std.specs.Prelude.{ℕ}
 use Rattle.fields.specs.declared.faults.FaultCode.{FaultCode}
 use Rattle.fields.specs.declared.faults.FieldFault.{FieldFault}
 use Rattle.fields.specs.declared.faults.FieldFault.TheVariants.{Bytes, Spacing}

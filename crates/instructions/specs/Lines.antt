@@ -7,10 +7,9 @@ use Rattle.fields.specs.Pieces.{pieces}
 use Rattle.fields.specs.Readers.{lines_left, fields_left}
 use Rattle.fields.specs.Tokens.{Seen, seen_of}
 use Rattle.instructions.specs.declared.faults.LineFault.{LineFault}
-use Rattle.instructions.specs.declared.faults.LineFault.TheVariants.{Field, Word, Count, Kind, Range}
+use Rattle.instructions.specs.declared.faults.LineFault.TheVariants.{Field, Word}
 use Rattle.instructions.specs.declared.keyword.Keyword.{Keyword}
 use Rattle.instructions.specs.declared.keyword.Keyword.TheVariants as keyword
-use Rattle.instructions.specs.declared.types.Instruction.{Instruction}
 use Rattle.instructions.specs.declared.types.Instruction.TheVariants.{Load, Store, Exchange, Fence, Nop, Set, Add, JumpNonzero, Jump}
 use Rattle.instructions.specs.declared.types.Line.{Line}
 use Rattle.instructions.specs.declared.types.Line.TheVariants as line

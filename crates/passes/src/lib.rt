@@ -1,4 +1,7 @@
 // The two fence passes: Fresh becomes Forward becomes Thinned.
+
+#![tactic(auto)]
+
 pub mod backward;
 mod dirty;
 mod exposed;

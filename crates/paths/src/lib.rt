@@ -1,4 +1,7 @@
 // Paths through a party's code, and the two rules by which fences are needless.
+
+#![tactic(auto)]
+
 ghost use Rattle.paths.specs.Examples.{ExamplesHold};
 ghost use Rattle.paths.specs.Marks.{MarksDecide};
 

@@ -1,4 +1,7 @@
 // Tests of memories, alone and piled on one another.
+
+#![tactic(auto)]
+
 #[cfg(test)]
 mod edges;
 #[cfg(test)]

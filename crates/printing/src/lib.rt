@@ -1,4 +1,7 @@
 // A routine's text, printed into a lent buffer.
+
+#![tactic(auto)]
+
 pub mod faults;
 mod lines;
 pub mod print;

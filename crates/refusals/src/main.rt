@@ -1,4 +1,7 @@
 // Shows every refusal: reads a text for each case into one routine, and prints what is told of it.
+
+#![tactic(auto)]
+
 ghost use Rattle.std.specs.Prelude.{◌≡◌, IfOk};
 ghost use Rattle.routine.specs.Fresh.{fresh_listing};
 ghost use Rattle.routine.specs.Routines.{one_nop};

@@ -1,4 +1,7 @@
 // A routine: what each of its parties runs and where its words start, and reading one from a text.
+
+#![tactic(auto)]
+
 mod addresses;
 mod draft;
 pub mod fresh;

@@ -1,4 +1,4 @@
-use Rattle.std.proofs.Common.{◌≡◌, ◌<◌, ◌≤◌, sym, ap, ◌∙◌, arith}
+use Rattle.std.proofs.Common.{◌≡◌, sym, ◌∙◌, arith}
 use Rattle.fields.specs.Numbers.{value_of}
 use Rattle.fields.proofs.Digits.{value_step, value_end, value_over}
 use Rattle.fields.proofs.numbers.capped_value.Goals as goal

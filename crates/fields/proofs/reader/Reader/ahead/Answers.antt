@@ -1,8 +1,8 @@
-use Rattle.std.proofs.Common.{◌≡◌, ℕ, ◌+◌, ◌-◌, ◌<◌, ◌≤◌, false, eqb, ◌∷◌, length, take, drop, sym, refl, ap, ◌∙◌, arith}
+use Rattle.std.proofs.Common.{◌≡◌, ℕ, ◌-◌, ◌<◌, false, eqb, length, take, drop, sym, ap, ◌∙◌, arith}
 use Rattle.std.specs.List.{prefix_len}
 use Rattle.std.proofs.lemmas.List.{take_rest, length-drop, length-take-le}
 use Rattle.std.proofs.lemmas.Bool.{eqb-true, eqb-false}
-use Rattle.fields.specs.Pieces.{pieces, other}
+use Rattle.fields.specs.Pieces.{other}
 use Rattle.fields.proofs.Answered.{ahead_end, ahead_unended, ahead_line}
 use Rattle.fields.proofs.reader.Reader.ahead.Goals as goal
 
@@ -10,7 +10,7 @@ pub returns-then-is_empty : goal.returns-then-is_empty
 returns-then-is_empty c =
     let cut = take_rest c.args.self.now.text.now c.args.self.now.next in
     record {
-      is = ahead_end (drop c.args.self.now.next c.args.self.now.text.now) (sym (ap length cut) ∙ eqb-true _ _ (sym c.if-is-empty.ensures));
+      is = ahead_end (drop c.args.self.now.next c.args.self.now.text.now) (sym (ap length cut) ∙ eqb-true _ _ (sym c.if-is_empty.ensures));
       room = tt;
     }
 

@@ -1,4 +1,4 @@
-use Rattle.std.proofs.Common.{◌≡◌, ◌+◌, ◌-◌, ◌∷◌, length, take, drop, sym, refl, ap, ◌∙◌, add_assoc, add-one, arith}
+use Rattle.std.proofs.Common.{◌≡◌, ◌+◌, ◌-◌, ◌∷◌, take, drop, sym, refl, ap, ◌∙◌, add_assoc, add-one, arith}
 use Rattle.std.proofs.lemmas.List.{length-drop, drop-drop}
 use Rattle.fields.specs.Pieces.{pieces}
 use Rattle.fields.proofs.Answered.{cut_line}
@@ -21,7 +21,15 @@ invariant_of-self c =
     let was = c.args.self.now.counted in
     let few = c.args.self.now.few_lines in
     let past = newlines_past text next n c.requires.leads ends in
-    (omega arith, (omega arith, (omega arith, (omega arith, (omega arith, (omega arith, (newlines_line text next n c.requires.leads, tt)))))))
+    record {
+      next_within = omega arith;
+      few_lines = omega arith;
+      stop_within = omega arith;
+      place_within = omega arith;
+      counted = omega arith;
+      numbered = omega arith;
+      unbroken = newlines_line text next n c.requires.leads;
+    }
 
 pub returns : goal.returns
 returns c =

@@ -10,7 +10,7 @@ loop-b-preserved c =
 
 pub returns-then-not-is_printable : goal.returns-then-not-is_printable
 returns-then-not-is_printable c =
-    ap (λ t. t && all_printable (drop (c.loop-b.b-index + 1) c.args.line.now)) c.if-not-is-printable.ensures
+    ap (λ t. t && all_printable (drop (c.loop-b.b-index + 1) c.args.line.now)) c.if-not-is_printable.ensures
     ∙ sym (at_drop_more all_printable _ _ 0 c.loop-b-test.true) ∙ c.loop-b.invariant
 
 pub returns : goal.returns
