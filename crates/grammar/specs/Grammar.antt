@@ -1,5 +1,5 @@
 -- The grammar: which texts spell which routine, in terms of lines, fields, words and numbers.
-use Rattle.std.specs.Prelude.{◌≡◌, ℕ, ◌≤◌, Bool, true, false, List, [], ◌∷◌, ◌++◌, length, Ok, Err, Result}
+use Rattle.std.specs.Prelude.{◌≡◌, ℕ, ◌≤◌, Bool, true, List, [], ◌∷◌, ◌++◌, length, Ok}
 use Rattle.fields.specs.Numbers.{is_numeral, value_of}
 use Rattle.fields.specs.Pieces.{pieces, joined_by}
 use Rattle.fields.specs.Lines.{line_checked}

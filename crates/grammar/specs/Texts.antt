@@ -1,5 +1,5 @@
 -- How a routine is written: its lines, each with byte 10 after it.
-use Rattle.std.specs.Prelude.{ℕ, List, [], ◌∷◌, ◌++◌, map}
+use Rattle.std.specs.Prelude.{ℕ, List, [], ◌∷◌, ◌++◌}
 use Rattle.instructions.specs.Texts.{line_text}
 use Rattle.instructions.specs.declared.types.Init.{Init}
 use Rattle.instructions.specs.declared.types.Instruction.{Instruction}

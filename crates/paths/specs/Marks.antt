@@ -1,5 +1,5 @@
 -- Marks on positions that decide the two rules.
-use Rattle.std.specs.Prelude.{◌≡◌, ℕ, suc, Bool, true, false, List, [], ◌∷◌, Some, None}
+use Rattle.std.specs.Prelude.{◌≡◌, ℕ, suc, Bool, true, Some}
 use Rattle.instructions.specs.Thinning.{thin_from}
 use Rattle.instructions.specs.declared.types.Instruction.{Instruction}
 use Rattle.instructions.specs.declared.types.Instruction.TheVariants.{Store}

@@ -1,5 +1,5 @@
 -- The two rules for fences, over all paths, and what a pass that keeps to them gives.
-use Rattle.std.specs.Prelude.{◌≡◌, ℕ, suc, List, [], ◌∷◌, ◌++◌, length, Some, None}
+use Rattle.std.specs.Prelude.{◌≡◌, ℕ, suc, List, ◌∷◌, ◌++◌, length, Some}
 use Rattle.instructions.specs.declared.types.Instruction.TheVariants.{Fence, Nop}
 use Rattle.paths.specs.Paths.{Code, fetch, Road, StoreAt, BarrierAt, Among, Shows}
 
