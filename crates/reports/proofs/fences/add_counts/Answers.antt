@@ -11,8 +11,8 @@ loop-p-preserved c =
     let before = c.fence-count-before.ensures ∙ ap fence_count (c.code.ensures ∙ ap code_of c.index-original-p.is) in
     let after = c.fence-count-after.ensures ∙ ap fence_count c.code-at.ensures in
     added_more (λ p (os : List Party). fence_lines p (map code_of os) ts) (λ p o. fence_line p (fence_count (code_of o)) (fence_count (get_or ts p []))) (λ _. refl) (λ _ _ _. refl) _ _ c.args.original.now c.loop-p.p c.loop-p.invariant c.index-original-p.result _ c.as-bytes.result.now c.loop-p-test.true
-    c.in-ok-extend-from-slice.ensures.items
-    (c.as-bytes.ensures.value ∙ c.in-ok-line.ensures ∙ (λ i. fence_line c.loop-p.p (before i) (after i)))
+    c.in_ok-extend-from-slice.ensures.items
+    (c.as-bytes.ensures.value ∙ c.in_ok-line.ensures ∙ (λ i. fence_line c.loop-p.p (before i) (after i)))
 
 pub returns : goal.returns
 returns c =

@@ -12,7 +12,7 @@ loop-k-preserved c =
     let fs = c.args.forward.now in
     let ts = c.args.thinned.now in
     added_more (λ k os. fate_lines p k os fs ts) (λ k o. fate_line p k o (get_or fs k Nop) (get_or ts k Nop)) (λ _. refl) (λ _ _ _. refl) _ _ c.args.original.now c.loop-k.k c.loop-k.invariant (Load A 0) _ _ c.loop-k-test.true
-    c.in-ok-add-fate.ensures
+    c.in_ok-add-fate.ensures
     (λ i. fate_line p c.loop-k.k (get_or c.args.original.now c.loop-k.k (Load A 0)) (c.instruction-at-after-forward.ensures i) (c.instruction-at-after-both.ensures i))
 
 pub returns : goal.returns

@@ -11,7 +11,7 @@ loop-p-preserved c =
     let ts = map code_of c.args.thinned.now in
     let code = c.code.ensures ∙ ap code_of c.index-original-p.is in
     added_more (λ p (os : List Party). party_fates p (map code_of os) fs ts) (λ p o. fate_lines p 0 (code_of o) (get_or fs p []) (get_or ts p [])) (λ _. refl) (λ _ _ _. refl) _ _ c.args.original.now c.loop-p.p c.loop-p.invariant c.index-original-p.result _ _ c.loop-p-test.true
-    c.in-ok-add-fates.ensures
+    c.in_ok-add-fates.ensures
     (λ i. fate_lines c.loop-p.p 0 (code i) (c.code-at-after-forward.ensures i) (c.code-at-after-both.ensures i))
 
 pub returns : goal.returns

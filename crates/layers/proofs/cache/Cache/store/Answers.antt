@@ -13,8 +13,8 @@ returns g c =
     let e = c.fetch.new.self in
     let a = c.args.address in
     let w = c.args.word in
-    let v = c.in-ok-fetch.field-0 in
-    let fetched = c.in-ok-fetch.ensures in
+    let v = c.in_ok-fetch.field-0 in
+    let fetched = c.in_ok-fetch.ensures in
     let after = c.replace.ensures.after in
     let held = read_held (laid (C s.below) s.lines.slots) a v fetched.answer in
     record {

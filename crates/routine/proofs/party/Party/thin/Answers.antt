@@ -6,5 +6,5 @@ use Rattle.routine.proofs.party.Party.thin.Goals as goal
 
 pub returns : goal.returns
 returns c =
-    with_items_is c.args.self.now.code c.thin-code.new.code (omega (arith, c.thin-code.auto.code, c.as-mut-slice.ensures.len))
-    ∙ c.thin-code.ensures ∙ ap (thin_from (marked c.args.stays.now) 0) c.as-mut-slice.ensures.value
+    with_items_is c.args.self.now.code c.thin_code.new.code (omega (arith, c.thin_code.auto.code, c.as_mut_slice.ensures.len))
+    ∙ c.thin_code.ensures ∙ ap (thin_from (marked c.args.stays.now) 0) c.as_mut_slice.ensures.value

@@ -5,4 +5,4 @@ use Rattle.routine.proofs.Storing.{part_in_use}
 use Rattle.routine.proofs.storage.Storage.parties.Goals as goal
 
 pub returns : goal.returns
-returns c = part_in_use code_of c.args.self.now.count _ _ c.as-slice-parties.ensures.value
+returns c = part_in_use code_of c.args.self.now.count _ _ c.as_slice-parties.ensures.value

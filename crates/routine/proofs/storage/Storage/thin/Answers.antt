@@ -14,7 +14,7 @@ pub returns-then-party-self : goal.returns-then-party-self
 returns-then-party-self c =
     let s = c.args.self.now in
     let m = marked c.args.stays.now in
-    let after = ap (λ (ps : List (List Instruction)). record { inits = inits_of s; parties = ps }) (changed_in_use code_of (thin_from m 0) s.count (vec_items s.parties) c.args.party c.index-mut-record.result.now c.thin.new.self [] c.if-party-self.true (omega (arith, s.within, s.four, s.parties.ok.0)) c.index-mut-record.ensures.value c.thin.ensures) in
+    let after = ap (λ (ps : List (List Instruction)). record { inits = inits_of s; parties = ps }) (changed_in_use code_of (thin_from m 0) s.count (vec_items s.parties) c.args.party c.index_mut-record.result.now c.thin.new.self [] c.if-party-self.true (omega (arith, s.within, s.four, s.parties.ok.0)) c.index_mut-record.ensures.value c.thin.ensures) in
     record {
       after = after;
       law = ap lawful after ∙ thin_lawful c.args.party m (listing_of s);
