@@ -1,5 +1,5 @@
 -- Lines that are read one by one.
-use Rattle.std.proofs.Common.{◌≡◌, ℕ, Bool, true, false, List, Some, None, Ok, Err, Option, Result, sym, refl, ap, ◌∙◌, arith}
+use Rattle.std.proofs.Common.{◌≡◌, ℕ, Bool, true, false, List, Some, Ok, Err, Option, Result, sym, refl, ap, ◌∙◌, arith}
 use Rattle.fields.specs.Lines.{line_answer}
 use Rattle.fields.specs.Pieces.{pieces}
 use Rattle.fields.specs.declared.faults.FieldFault.{FieldFault}
@@ -8,7 +8,7 @@ use Rattle.instructions.specs.Lines.{Said, line_read, fields_say, by_answer, fou
 use Rattle.instructions.specs.declared.faults.LineFault.{LineFault}
 use Rattle.instructions.specs.declared.types.Line.{Line}
 use Rattle.instructions.specs.declared.types.Stage.{Stage}
-use Rattle.grammar.specs.Grammar.{Spells, word_of}
+use Rattle.grammar.specs.Grammar.{word_of}
 use Rattle.grammar.specs.Listings.{Listing, lawful, addresses_of}
 use Rattle.grammar.specs.Reads.{read_of, outside}
 use Rattle.grammar.specs.declared.faults.RoutineFault.{RoutineFault}

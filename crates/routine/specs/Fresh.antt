@@ -1,5 +1,5 @@
 -- What a fresh routine says, and what reading leaves in it.
-use Rattle.std.specs.Prelude.{◌≡◌, ℕ, true, List, Ok, Err, Result}
+use Rattle.std.specs.Prelude.{◌≡◌, ℕ, true, List, Ok, Result}
 use Rattle.grammar.specs.Grammar.{Spells}
 use Rattle.grammar.specs.Listings.{Listing, lawful}
 use Rattle.grammar.specs.Texts.{text_of}

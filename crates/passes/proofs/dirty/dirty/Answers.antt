@@ -7,4 +7,4 @@ pub settle-requires : goal.settle-requires
 settle-requires c = (lawful_short c.args.code.now c.requires, (search rules, arrives_start c.args.code.now))
 
 pub returns : goal.returns
-returns c = dirty_marks c.args.code.now c.settle.new.arrivals c.dirty-ones.result c.settle.ensures.sound c.settle.ensures.still c.dirty-ones.ensures
+returns c = dirty_marks c.args.code.now c.settle.new.arrivals c.dirty_ones.result c.settle.ensures.sound c.settle.ensures.still c.dirty_ones.ensures

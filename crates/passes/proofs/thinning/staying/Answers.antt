@@ -7,8 +7,8 @@ use Rattle.passes.specs.Passes.{RuleOf}
 use Rattle.passes.proofs.Lawful.{lawful_short}
 use Rattle.passes.proofs.thinning.staying.Goals as goal
 
-pub exposed-after-requires : goal.exposed-after-requires
-exposed-after-requires c = (lawful_short c.args.code.now c.requires).long
+pub exposed_after-requires : goal.exposed_after-requires
+exposed_after-requires c = (lawful_short c.args.code.now c.requires).long
 
 pub returns-in-Forward : goal.returns-in-Forward
 returns-in-Forward c =
@@ -19,4 +19,4 @@ returns-in-Forward c =
 pub returns-in-Backward : goal.returns-in-Backward
 returns-in-Backward c =
     let code = c.args.code.now in
-    subst (λ p. TakenOut (RuleOf p code) code (thin_from (marked c.exposed-after.result) 0 code)) (sym c.in-Backward.is) c.exposed-after.ensures
+    subst (λ p. TakenOut (RuleOf p code) code (thin_from (marked c.exposed_after.result) 0 code)) (sym c.in-Backward.is) c.exposed_after.ensures

@@ -13,11 +13,11 @@ rest is = ended (init_lines is [])
 abbrev one : Init → List ℕ
 one i = line_text (line.Init i) ++ (10 ∷ [])
 
-pub put-init-place-requires : goal.put-init-place-requires
-put-init-place-requires c = left_fits rest one (λ i is. ended_more (line.Init i) (init_lines is [])) c.args.inits.now c.loop-init.init-index c.loop-init.invariant _ (2 ^ 64) c.loop-init-test.true c.requires
+pub put_init-place-requires : goal.put_init-place-requires
+put_init-place-requires c = left_fits rest one (λ i is. ended_more (line.Init i) (init_lines is [])) c.args.inits.now c.loop-init.init-index c.loop-init.invariant _ (2 ^ 64) c.loop-init-test.true c.requires
 
 pub loop-init-preserved : goal.loop-init-preserved
-loop-init-preserved c = left_more rest one (λ i is. ended_more (line.Init i) (init_lines is [])) c.args.inits.now c.loop-init.init-index c.loop-init.invariant _ c.loop-init-test.true (record { writes = c.put-init-place.ensures.writes; ends = c.put-init-place.ensures.ends })
+loop-init-preserved c = left_more rest one (λ i is. ended_more (line.Init i) (init_lines is [])) c.args.inits.now c.loop-init.init-index c.loop-init.invariant _ c.loop-init-test.true (record { writes = c.put_init-place.ensures.writes; ends = c.put_init-place.ensures.ends })
 
 pub returns : goal.returns
 returns c =

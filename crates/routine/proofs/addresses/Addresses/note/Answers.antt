@@ -1,5 +1,5 @@
-use Rattle.std.proofs.Common.{◌≡◌, true, false, cond, length, vec_items, vec_len, sym, refl, ap, ◌∙◌, arith}
-use Rattle.std.specs.List.{prefix_len, insert}
+use Rattle.std.proofs.Common.{◌≡◌, length, vec_items, sym, refl, ap, ◌∙◌, arith}
+use Rattle.std.specs.List.{prefix_len}
 use Rattle.std.proofs.lemmas.Bool.{le-leb, lt-leb, cond-true}
 use Rattle.routine.specs.Addresses.{under, stands_at}
 use Rattle.routine.proofs.Noting.{noted_standing, noted_absent}

@@ -1,4 +1,4 @@
-use Rattle.std.proofs.Common.{true, false, length, sym, refl, ap, ◌∙◌, arith}
+use Rattle.std.proofs.Common.{length, sym, refl, ap, arith}
 use Rattle.std.proofs.lemmas.Bool.{le-leb, false≢true}
 use Rattle.grammar.specs.Listings.{noted_in, noted_code, address_in}
 use Rattle.instructions.specs.declared.types.Instruction.{Instruction}

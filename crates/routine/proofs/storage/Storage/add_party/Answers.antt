@@ -1,4 +1,4 @@
-use Rattle.std.proofs.Common.{◌≡◌, [], ◌∷◌, ◌++◌, vec_items, sym, refl, ap, ◌∙◌, arith}
+use Rattle.std.proofs.Common.{[], ◌∷◌, ◌++◌, vec_items, refl, ap, ◌∙◌, arith}
 use Rattle.routine.specs.Parties.{code_of}
 use Rattle.routine.specs.Storages.{parties_of}
 use Rattle.routine.proofs.Storing.{one_more}

@@ -1,4 +1,4 @@
-use Rattle.std.proofs.Common.{◌≡◌, ◌-◌, true, false, leb, [], map, length, take, sym, refl, ap, ◌∙◌, arith}
+use Rattle.std.proofs.Common.{◌≡◌, ◌-◌, leb, [], map, length, take, sym, refl, ap, ◌∙◌, arith}
 use Rattle.std.proofs.lemmas.Bool.{leb-false, lt-leb, false≢true}
 use Rattle.grammar.specs.Listings.{noted_inits, noted_parties}
 use Rattle.routine.specs.Addresses.{noted_list}

@@ -1,5 +1,3 @@
-use Rattle.std.proofs.Common.{◌≡◌, ◌-◌, map, take, vec_items, sym, refl, ap, ◌∙◌, arith}
-use Rattle.std.proofs.lemmas.List.{take-map}
 use Rattle.routine.specs.Parties.{code_of}
 use Rattle.routine.proofs.Storing.{part_in_use}
 use Rattle.routine.proofs.storage.Storage.parties.Goals as goal

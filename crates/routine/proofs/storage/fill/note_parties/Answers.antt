@@ -1,4 +1,4 @@
-use Rattle.std.proofs.Common.{ℕ, true, false, leb, List, map, length, sym, refl, ap, ◌∙◌, arith}
+use Rattle.std.proofs.Common.{ℕ, leb, List, map, length, sym, refl, ap, ◌∙◌, arith}
 use Rattle.std.proofs.lemmas.Bool.{le-leb, false≢true}
 use Rattle.grammar.specs.Listings.{noted_code, noted_parties}
 use Rattle.routine.specs.declared.party.Party.{Party}
