@@ -133,7 +133,7 @@ pub(crate) const REFUSED: [&str; 174] = [
     "jnz-past-end",
     "jump-past-second-end",
     "jmp-32-past-end",
-    "no_party",
+    "no-party",
     "open-party",
     "open-empty-party",
     "open-second-party",
