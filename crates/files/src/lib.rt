@@ -1,5 +1,4 @@
 // The first bytes of a file, and no more of them than are wanted.
-
 #![tactic(auto)]
 
 ghost use Rattle.std.specs.Prelude.{◌≤◌, length, IfOk, vec_len};

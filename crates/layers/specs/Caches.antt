@@ -26,14 +26,14 @@ pub record Missed {M : Type 0} (R : M → ℕ → M → Type 0) (W : M → ℕ �
 
 -- A read of a makes d of c. Where a is not held, and where its line has it, nothing changes; a held word is then in its line.
 pub record CacheRead {M : Type 0} (C : M → Cells) (R : M → ℕ → M → Type 0) (W : M → ℕ → ℕ → M → Type 0) (c : Cache M) (a : ℕ) (d : Cache M) : Type 0 where
-  pub IfErr : C c.below a ≡ None → d ≡ c
+  pub refused : C c.below a ≡ None → d ≡ c
   pub hit : (v : ℕ) → word_in (line_of c.lines.slots a) a ≡ Some v → d ≡ c
   pub miss : (v : ℕ) → C c.below a ≡ Some v → word_in (line_of c.lines.slots a) a ≡ None → Missed R W c a v d
   pub line : (v : ℕ) → cache_cells C c a ≡ Some v → line_of d.lines.slots a ≡ Some (cell a v)
 
 -- A write of w at a makes d of c. Where a is not held, nothing changes; where its line has it, only that line; where a is held, w is then in its line.
 pub record CacheWritten {M : Type 0} (C : M → Cells) (R : M → ℕ → M → Type 0) (W : M → ℕ → ℕ → M → Type 0) (c : Cache M) (a w : ℕ) (d : Cache M) : Type 0 where
-  pub IfErr : C c.below a ≡ None → d ≡ c
+  pub refused : C c.below a ≡ None → d ≡ c
   pub hit : (u v : ℕ) → C c.below a ≡ Some u → word_in (line_of c.lines.slots a) a ≡ Some v → (d.below ≡ c.below) × (d.lines.slots ≡ lined c.lines.slots a w)
   pub miss : (u : ℕ) → C c.below a ≡ Some u → word_in (line_of c.lines.slots a) a ≡ None → Missed R W c a w d
   pub line : (v : ℕ) → cache_cells C c a ≡ Some v → line_of d.lines.slots a ≡ Some (cell a w)

@@ -1,5 +1,4 @@
 // Memories that stand on another one.
-
 #![tactic(auto)]
 
 pub mod cache;

@@ -1,7 +1,7 @@
 -- Where a cell stands, what that says of the memory, and what a write to it leaves.
 use Rattle.std.proofs.Common.{◌≡◌, ℕ, zero, suc, ◌+◌, ◌-◌, ◌<◌, ◌||◌, List, [], ◌∷◌, length, get_or, take, drop, set, is_some, Some, None, sym, refl, ◌∙◌, suc-le-suc, le_of_suc-le-suc, not-suc-le-zero, add-one, arith, length-drop, take_all}
 use mathlib.Core.Path.{fun_ext}
-use Rattle.memory.specs.Cells.{Cells, put}
+use Rattle.memory.specs.Cells.{put}
 use Rattle.memory.specs.Pairs.{cell, told, named, place, rewritten, twice}
 use Rattle.memory.specs.declared.cell.Cell.{Cell}
 

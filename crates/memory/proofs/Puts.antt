@@ -2,7 +2,7 @@
 use Rattle.std.proofs.Common.{◌≡◌, ℕ, true, ◌≢◌, is_some, Some, None, ⊎_elim, arith}
 use mathlib.Core.Path.{fun_ext}
 use Rattle.std.proofs.lemmas.Bool.{cases_eq}
-use Rattle.memory.specs.Cells.{Cells, put, over}
+use Rattle.memory.specs.Cells.{Cells, put}
 
 -- what is held stays held, and nothing else is
 pub put_held : (f : Cells) (a w b : ℕ) → is_some (put f a w b) ≡ is_some (f b)

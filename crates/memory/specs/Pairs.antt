@@ -1,5 +1,5 @@
 -- Lists of cells: what they mean, and which make no sparse memory.
-use Rattle.std.specs.Prelude.{ℕ, suc, Bool, false, cond, ◌||◌, List, [], ◌∷◌, length, is_some, Some, None, Option, ◌==◌, nat_lt}
+use Rattle.std.specs.Prelude.{ℕ, suc, Bool, false, cond, ◌||◌, List, [], ◌∷◌, length, Some, None, Option, ◌==◌, nat_lt}
 use Rattle.std.specs.Option.{option_map}
 use Rattle.memory.specs.Cells.{Cells}
 use Rattle.memory.specs.declared.cell.Cell.{Cell}

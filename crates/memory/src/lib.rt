@@ -1,5 +1,4 @@
 // Memories: what one is, two that hold their words themselves, and lists of accesses.
-
 #![tactic(auto)]
 
 pub mod accesses;

@@ -1,5 +1,4 @@
 // Tests of memories, alone and piled on one another.
-
 #![tactic(auto)]
 
 #[cfg(test)]

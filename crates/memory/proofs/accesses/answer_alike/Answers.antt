@@ -1,4 +1,4 @@
-use Rattle.std.proofs.Common.{◌≡◌, sym, ap, ◌∙◌}
+use Rattle.std.proofs.Common.{sym, ap, ◌∙◌}
 use Rattle.memory.specs.Accesses.{Alike, answers_of, cells_after}
 use Rattle.memory.specs.Cells.{Cells}
 use Rattle.memory.specs.declared.accesses.Access.TheVariants.{Read}
@@ -8,15 +8,15 @@ use Rattle.memory.proofs.accesses.answer_alike.Goals as goal
 pub loop-access-preserved : goal.loop-access-preserved
 loop-access-preserved g c =
     let inv = c.loop-access.invariant in
-    let one = c.perform-one-one.ensures in
-    let other = c.perform-one-other.ensures in
+    let one = c.perform_one-one.ensures in
+    let other = c.perform_one-other.ensures in
     let xs = c.args.accesses.now in
     let i = c.loop-access.access-index in
     let within = c.loop-access-test.true in
     let whole = Alike (g.M.Memory.cells c.args.first.now) (g.N.Memory.cells c.args.second.now) xs in (
-      going_on g.M.Memory.cells g.M.Memory.reads g.M.Memory.writes xs i (Read 0) c.args.first.now c.loop-access.first c.perform-one-one.new.memory within inv.0 one.means one.itself,
-      going_on g.N.Memory.cells g.N.Memory.reads g.N.Memory.writes xs i (Read 0) c.args.second.now c.loop-access.second c.perform-one-other.new.memory within inv.1 other.means other.itself,
-      still_on c.loop-access.alike c.same-alike.result whole xs i (Read 0) (g.M.Memory.cells c.loop-access.first) (g.N.Memory.cells c.loop-access.second) (g.M.Memory.cells c.perform-one-one.new.memory) (g.N.Memory.cells c.perform-one-other.new.memory) c.perform-one-one.result c.perform-one-other.result within inv.2 c.same-alike.ensures one.answer other.answer one.means other.means,
+      going_on g.M.Memory.cells g.M.Memory.reads g.M.Memory.writes xs i (Read 0) c.args.first.now c.loop-access.first c.perform_one-one.new.memory within inv.0 one.means one.itself,
+      going_on g.N.Memory.cells g.N.Memory.reads g.N.Memory.writes xs i (Read 0) c.args.second.now c.loop-access.second c.perform_one-other.new.memory within inv.1 other.means other.itself,
+      still_on c.loop-access.alike c.same-alike.result whole xs i (Read 0) (g.M.Memory.cells c.loop-access.first) (g.N.Memory.cells c.loop-access.second) (g.M.Memory.cells c.perform_one-one.new.memory) (g.N.Memory.cells c.perform_one-other.new.memory) c.perform_one-one.result c.perform_one-other.result within inv.2 c.same-alike.ensures one.answer other.answer one.means other.means,
     )
 
 pub returns : goal.returns

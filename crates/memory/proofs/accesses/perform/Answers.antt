@@ -1,4 +1,4 @@
-use Rattle.std.proofs.Common.{◌≡◌, ◌+◌, ◌≤◌, length, vec_items, vec_len, vec_capacity, arith}
+use Rattle.std.proofs.Common.{vec_items, arith}
 use Rattle.memory.specs.Accesses.{answers_of}
 use Rattle.memory.specs.declared.accesses.Access.TheVariants.{Read}
 use Rattle.memory.proofs.Performing.{going_on, going_end, answers_on, answers_end}
@@ -7,15 +7,15 @@ use Rattle.memory.proofs.accesses.perform.Goals as goal
 pub loop-access-preserved : goal.loop-access-preserved
 loop-access-preserved g c =
     let inv = c.loop-access.invariant in
-    let own = c.perform-one.ensures in
-    let pushed = c.push-reserved.ensures in
+    let own = c.perform_one.ensures in
+    let pushed = c.push_reserved.ensures in
     let xs = c.args.accesses.now in
     let i = c.loop-access.access-index in
     let within = c.loop-access-test.true in
     let m = c.loop-access.memory in
-    let n = c.perform-one.new.memory in (
+    let n = c.perform_one.new.memory in (
       going_on g.M.Memory.cells g.M.Memory.reads g.M.Memory.writes xs i (Read 0) c.args.memory.now m n within inv.0 own.means own.itself,
-      answers_on xs i (Read 0) (g.M.Memory.cells m) (g.M.Memory.cells n) (vec_items c.loop-access.answers) (vec_items c.push-reserved.new.self) (answers_of (g.M.Memory.cells c.args.memory.now) xs) within inv.1 (let e = pushed.items in let a = own.answer in cc) own.means,
+      answers_on xs i (Read 0) (g.M.Memory.cells m) (g.M.Memory.cells n) (vec_items c.loop-access.answers) (vec_items c.push_reserved.new.self) (answers_of (g.M.Memory.cells c.args.memory.now) xs) within inv.1 (let e = pushed.items in let a = own.answer in cc) own.means,
       omega (arith, pushed.len, inv.2),
       omega (arith, pushed.capacity, inv.3),
     )

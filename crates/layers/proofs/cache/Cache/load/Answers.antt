@@ -1,4 +1,4 @@
-use Rattle.std.proofs.Common.{◌≡◌, sym, ap, ◌∙◌}
+use Rattle.std.proofs.Common.{sym, ap, ◌∙◌}
 use Rattle.memory.specs.Answers.{read_answer}
 use Rattle.layers.proofs.Fetching.{miss_means, miss_read, read_held}
 use Rattle.layers.proofs.Laid.{laid_miss}
@@ -11,8 +11,8 @@ returns g c =
     let a = c.args.address in
     let w = c.in_ok-word.word in
     let read = c.in_ok-word.ensures in
-    let taken = c.take-over.ensures in
-    let d = c.take-over.new.self in
+    let taken = c.take_over.ensures in
+    let d = c.take_over.new.self in
     let between = c.read.new.self in
     let held = read_held (C s.below) a w read.answer in
     record {

@@ -1,4 +1,4 @@
-use Rattle.std.proofs.Common.{◌≡◌, sym, refl, ap, ◌∙◌}
+use Rattle.std.proofs.Common.{sym, refl, ap, ◌∙◌}
 use Rattle.memory.specs.Answers.{written}
 use Rattle.memory.specs.Cells.{Cells, put}
 use Rattle.layers.specs.Lines.{Slots, laid}

@@ -1,10 +1,10 @@
-use Rattle.std.proofs.Common.{◌≡◌, ◌<◌, length, Some, None, arith, rules}
+use Rattle.std.proofs.Common.{◌≡◌, Some, None, rules}
 use Rattle.memory.specs.Pairs.{cell, place}
 use Rattle.memory.proofs.Places.{told_at, told_named, told_none}
 use Rattle.memory.proofs.sparse.find.look_up.Goals as goal
 
-pub offset-bounds-pairs-i : goal.offset-bounds-pairs-i
-offset-bounds-pairs-i c =
+pub offset_bounds-pairs-i : goal.offset_bounds-pairs-i
+offset_bounds-pairs-i c =
     let at : place c.args.pairs.now c.args.address ≡ Some c.in-Some.i = cc in
     search (rules, told_at _ c.args.address c.in-Some.i (cell 0 0) at)
 

@@ -4,8 +4,8 @@ use Rattle.memory.specs.Pairs.{cell, twice}
 use Rattle.memory.proofs.Places.{twice_part}
 use Rattle.memory.proofs.sparse.find.repeats.Goals as goal
 
-pub returns-then-is-some : goal.returns-then-is-some
-returns-then-is-some c =
+pub returns-then-is_some : goal.returns-then-is_some
+returns-then-is_some c =
     let step = twice_part c.args.pairs.now c.loop-i.i (cell 0 0) c.loop-i-test.true in
     let inv = c.loop-i.invariant in
     grind arith

@@ -1,11 +1,11 @@
-use Rattle.std.proofs.Common.{◌≡◌, List, vec_items, sym, refl, ap, ◌∙◌, rules}
+use Rattle.std.proofs.Common.{List, vec_items, refl, ap, ◌∙◌, rules}
 use Rattle.memory.specs.Pairs.{cell, told, twice}
 use Rattle.memory.specs.declared.cell.Cell.{Cell}
 use Rattle.memory.proofs.Places.{rewritten_at, told_at, told-rewritten, twice-rewritten}
 use Rattle.memory.proofs.sparse.find.rewrite.Goals as goal
 
-pub index-mut-requires : goal.index-mut-requires
-index-mut-requires c = search (rules, told_at _ c.args.address c.args.i (cell 0 0) c.requires)
+pub index_mut-requires : goal.index_mut-requires
+index_mut-requires c = search (rules, told_at _ c.args.address c.args.i (cell 0 0) c.requires)
 
 pub returns : goal.returns
 returns c =
