@@ -5,7 +5,6 @@ use Rattle.instructions.specs.declared.types.Instruction.{Instruction}
 use Rattle.instructions.specs.declared.types.Instruction.TheVariants.{Store}
 use Rattle.instructions.specs.declared.types.Operand.{Operand}
 use Rattle.paths.specs.Paths.{Code, fetch, Follows}
-use Rattle.paths.specs.Marks.{Dirty}
 use Rattle.passes.specs.declared.dirty.Arrival.{Arrival}
 use Rattle.passes.specs.declared.dirty.Arrival.TheVariants as arrival
 use Rattle.passes.specs.declared.steps.Next.{Next}

@@ -1,5 +1,5 @@
 -- Arrivals that are raised.
-use Rattle.std.proofs.Common.{◌≡◌, ℕ, zero, suc, ◌-◌, ◌<◌, ◌≤◌, Bool, true, false, eqb, ◌⊎◌, List, [], ◌∷◌, length, set, sym, refl, ap, subst, inl, inr, le_of_suc-le-suc, arith, length-set, get_or-set_other, get_or-set_same, eqb-true}
+use Rattle.std.proofs.Common.{◌≡◌, ℕ, zero, suc, ◌<◌, ◌≤◌, Bool, true, false, eqb, ◌⊎◌, List, [], ◌∷◌, length, set, sym, refl, ap, subst, inl, inr, le_of_suc-le-suc, arith, length-set, get_or-set_other, get_or-set_same, eqb-true}
 use borrow.Author.Tests.{eqb-false}
 use Rattle.passes.specs.declared.dirty.Arrival.{Arrival}
 use Rattle.passes.specs.declared.dirty.Arrival.TheVariants as arrival

@@ -1,5 +1,5 @@
 -- What a pass makes of a whole routine, and of both passes one after the other.
-use Rattle.std.specs.Prelude.{◌≡◌, ℕ, suc, List, [], length, slice_index_or}
+use Rattle.std.specs.Prelude.{◌≡◌, ℕ, suc, [], length, slice_index_or}
 use Rattle.grammar.specs.Listings.{Listing}
 use Rattle.paths.specs.Paths.{Code}
 use Rattle.paths.specs.Rules.{TakenOut, Shielded, Screened}

@@ -4,7 +4,7 @@ use Rattle.grammar.specs.Listings.{Listing}
 use Rattle.orders.specs.declared.entries.Entry.{Entry}
 use Rattle.tso.specs.Machine.{Turn, refused, moved, next}
 use Rattle.thinning.specs.Pairs.{Pair, taken}
-use Rattle.thinning.specs.Calls.{Double, limit, reply_to, called, performed, replies, entry_fed, entries_fed}
+use Rattle.thinning.specs.Calls.{Double, limit, reply_to, called, replies, entry_fed, entries_fed}
 use Rattle.thinning.specs.Promises.{AcceptedAsAnswered}
 use Rattle.thinning.specs.declared.calls.Call.{Call}
 use Rattle.thinning.specs.declared.calls.Call.TheVariants.{Feed, Close, Abandon}

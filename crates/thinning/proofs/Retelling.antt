@@ -1,5 +1,5 @@
 -- What linked sides say of the tape; and so thinning adds nothing.
-use Rattle.std.proofs.Common.{◌≡◌, ℕ, zero, suc, ◌+◌, List, [], ◌∷◌, ◌++◌, Some, sym, refl, ap, ◌∙◌, subst, subst₂, append_assoc, append-nil, arith}
+use Rattle.std.proofs.Common.{◌≡◌, ℕ, zero, suc, List, [], ◌∷◌, ◌++◌, Some, sym, refl, ap, ◌∙◌, subst, subst₂, append_assoc, append-nil, arith}
 use Rattle.grammar.specs.Listings.{Listing}
 use Rattle.memory.specs.Cells.{Cells}
 use Rattle.orders.specs.declared.entries.Entry.{Entry}

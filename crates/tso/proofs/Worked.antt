@@ -5,10 +5,10 @@ use Rattle.fields.specs.declared.registers.Register.TheVariants.{A}
 use Rattle.grammar.specs.Listings.{addresses_of}
 use Rattle.paths.specs.Paths.{Code}
 use Rattle.memory.specs.Cells.{Cells}
-use Rattle.tso.specs.Machine.{Party, State, in_register, operand_value, newest}
-use Rattle.tso.specs.Openings.{missing, Holds, opening, member}
+use Rattle.tso.specs.Machine.{Party, State}
+use Rattle.tso.specs.Openings.{missing, opening, member}
 use Rattle.tso.specs.Outcomes.{answers_of, after_all, Alike}
-use Rattle.tso.specs.Examples.{Case, in_parties, ComesTo, Comes}
+use Rattle.tso.specs.Examples.{Case, in_parties, Comes}
 use Rattle.tso.specs.declared.faults.EntryFault.{EntryFault}
 use Rattle.tso.proofs.Restriction.{outcome_by_named_words}
 

@@ -1,5 +1,5 @@
 -- The machine: what an entry does, step by step.
-use Rattle.std.specs.Prelude.{ℕ, zero, suc, ◌+◌, ◌%◌, ◌^◌, Bool, true, false, cond, List, [], ◌∷◌, ◌++◌, length, Some, None, Option, ◌==◌, nat_lt}
+use Rattle.std.specs.Prelude.{ℕ, suc, ◌+◌, ◌%◌, ◌^◌, Bool, true, false, cond, List, [], ◌∷◌, ◌++◌, length, Some, None, Option, ◌==◌, nat_lt}
 use Rattle.fields.specs.declared.registers.Register.{Register}
 use Rattle.fields.specs.declared.registers.Register.TheVariants.{A, B, C, D}
 use Rattle.instructions.specs.declared.types.Instruction.{Instruction}

@@ -1,5 +1,5 @@
 -- How a run of a routine starts on a memory.
-use Rattle.std.specs.Prelude.{◌≡◌, ℕ, Bool, true, false, cond, ◌||◌, List, [], ◌∷◌, Some, None, Option, ◌==◌}
+use Rattle.std.specs.Prelude.{◌≡◌, ℕ, Bool, false, cond, ◌||◌, List, [], ◌∷◌, Some, None, Option, ◌==◌}
 use Rattle.instructions.specs.declared.types.Init.{Init}
 use Rattle.grammar.specs.Listings.{Listing, addresses_of}
 use Rattle.memory.specs.Cells.{Cells, put}

@@ -1,12 +1,12 @@
 -- What a run leaves behind it: each party's steps, all arrivals in memory; and when one order rearranges another.
-use Rattle.std.specs.Prelude.{◌≡◌, ℕ, ◌+◌, Bool, true, false, cond, List, [], ◌∷◌, ◌++◌, Some, None, Option, ◌==◌}
+use Rattle.std.specs.Prelude.{◌≡◌, ℕ, ◌+◌, Bool, false, cond, List, [], ◌∷◌, ◌++◌, Some, None, Option, ◌==◌}
 use Rattle.instructions.specs.declared.types.Instruction.{Instruction}
 use Rattle.instructions.specs.declared.types.Instruction.TheVariants.{Load, Store, Exchange, Fence, Nop, Set, Add, JumpNonzero, Jump}
 use Rattle.grammar.specs.Listings.{Listing, code_at}
 use Rattle.paths.specs.Paths.{fetch}
 use Rattle.orders.specs.declared.entries.Entry.{Entry}
 use Rattle.orders.specs.declared.entries.Entry.TheVariants.{Step, Drain}
-use Rattle.tso.specs.Machine.{Party, State, Turn, refused, moved, next}
+use Rattle.tso.specs.Machine.{Party, State, refused, moved, next}
 use Rattle.tso.specs.declared.writes.Write.{Write}
 
 -- what each entry of an order adds, in turn, up to the first that is refused

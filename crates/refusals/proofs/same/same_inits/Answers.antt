@@ -1,7 +1,6 @@
 use Rattle.std.proofs.Common.{rules}
-use Rattle.instructions.specs.contracts.types.InitPartialEq.TheImpl.{ghosts}
-use Rattle.refusals.proofs.Compare.{lists_decided}
+use Rattle.std.proofs.lemmas.Slice.Eq.{slice_eq-Decides}
 use Rattle.refusals.proofs.same.same_inits.Goals as goal
 
 pub returns : goal.returns
-returns c = lists_decided {E = ghosts.eq} (λ a b t e. search rules) _ _ _ c.eq.ensures
+returns c = slice_eq-Decides (λ a b. search rules) _ _ _ c.eq.ensures

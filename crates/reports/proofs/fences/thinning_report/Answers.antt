@@ -9,7 +9,7 @@ use Rattle.reports.proofs.fences.thinning_report.Goals as goal
 pub returns : goal.returns
 returns c =
     let before = c.parties-before.ensures ∙ ap (λ (r : Routine). (listing r).parties) c.original.ensures in
-    let between = c.parties-between.ensures ∙ ap (λ (r : Routine). (listing r).parties) c.after-forward.ensures in
+    let between = c.parties-between.ensures ∙ ap (λ (r : Routine). (listing r).parties) c.after_forward.ensures in
     let after = c.parties-after.ensures ∙ ap (λ (r : Routine). (listing r).parties) c.routine.ensures in
-    three_parts _ _ _ _ _ _ _ c.new-out.ensures.items c.in_ok-add-party-fates.ensures c.in_ok-add-counts.ensures c.in_ok-add-text.ensures
+    three_parts _ _ _ _ _ _ _ c.new-out.ensures.items c.in_ok-add_party_fates.ensures c.in_ok-add_counts.ensures c.in_ok-add_text.ensures
     ∙ (λ i. party_fates 0 (before i) (between i) (after i) ++ (fence_lines 0 (before i) (after i) ++ text_of (listing (c.routine-2.ensures i))))
