@@ -1,4 +1,5 @@
 // The first bytes of a file, and no more of them than are wanted.
+
 #![tactic(auto)]
 
 ghost use Rattle.std.specs.Prelude.{◌≤◌, length, IfOk, vec_len};

@@ -1,4 +1,5 @@
 // Memories that stand on another one.
+
 #![tactic(auto)]
 
 pub mod cache;

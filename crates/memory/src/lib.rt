@@ -1,4 +1,5 @@
 // Memories: what one is, two that hold their words themselves, and lists of accesses.
+
 #![tactic(auto)]
 
 pub mod accesses;

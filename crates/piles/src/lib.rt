@@ -1,4 +1,5 @@
 // Tests of memories, alone and piled on one another.
+
 #![tactic(auto)]
 
 #[cfg(test)]
