@@ -7,6 +7,7 @@ ghost use Rattle.routine.specs.Routines.{listing, one_nop};
 use crate::draft::Draft;
 use crate::room::Room;
 use crate::routine::Routine;
+use crate::spare::Spare;
 use grammar::faults::RoutineFault;
 use std::alloc::{AllocError, Global};
 
@@ -15,7 +16,8 @@ use std::alloc::{AllocError, Global};
 pub struct Fresh {
     pub(crate) routine: Routine,
     pub(crate) draft: Draft,
-    room: Room,
+    // The forward pass copies the routine into it.
+    spare: Spare,
 }
 
 impl Fresh {
@@ -24,11 +26,11 @@ impl Fresh {
     {
         let routine = Routine::one_nop(heap)?;
         let draft = Draft::new(heap)?;
-        let room = Room::new(heap)?;
+        let spare = Spare::new(heap)?;
         Ok(Fresh {
             routine,
             draft,
-            room,
+            spare,
         })
     }
 
@@ -53,9 +55,10 @@ impl Fresh {
         let Fresh {
             routine,
             draft,
-            room,
+            spare,
         } = self;
-        let copy = routine.copy_in(draft.into_room());
+        let copy = routine.copy_in(spare.into_room());
+        let room = draft.into_room();
         (routine, copy, room)
     }
 }

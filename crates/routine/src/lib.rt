@@ -9,4 +9,5 @@ pub mod party;
 pub mod read;
 pub mod room;
 pub mod routine;
+mod spare;
 mod storage;

@@ -55,6 +55,12 @@ impl Routine {
         mem::swap(&mut self.storage, storage);
     }
 
+    // Its room, for another use.
+    pub(crate) fn into_room(self, spare: Party) -> Room {
+        let Routine { storage } = self;
+        Room { storage, spare }
+    }
+
     // A copy of it, in that room.
     pub fn copy_in(&self, room: Room) -> Routine
         ensures { listing result ≡ listing self.now }
