@@ -3,7 +3,7 @@
 
 Run it once at the top of the repository, after the kit's port.py: python3 tools/respell.py
 Each name on the left stands for the one on the right in every .antt file below crates/ and, where it has a capital or a dash, in every .rt file
-and must-fail edit, whose functions and types have no such names. A name goes by whole words: a-b is one word.
+and must-fail edit, whose functions and types have no such names; strings stay. A name goes by whole words: a-b is one word.
 A lemma or field that would have had a function's name has a word more (_lem, is_, are_).
 """
 import os
@@ -732,9 +732,11 @@ NAMES = {
 }
 
 WORD = re.compile(r"[A-Za-zℕ_◌][\w'?ℕ◌-]*")
+# In a .rt file strings and characters stay as they are; a comment is matched first, since it may hold a quote.
+KEPT = re.compile(r"""(//[^\n]*)|b?"(?:[^"\\]|\\.)*"|b?'(?:[^'\\]|\\.)'""", re.S)
 
 
-def turned(text, antt):
+def words(text, antt):
     def one(m):
         old = m.group()
         if old in NAMES and (antt or "-" in old or old.lower() != old):
@@ -742,6 +744,16 @@ def turned(text, antt):
         return old
 
     return WORD.sub(one, text)
+
+
+def turned(text, antt):
+    if antt:
+        return words(text, antt)
+    out, at = [], 0
+    for m in KEPT.finditer(text):
+        out += [words(text[at : m.start()], antt), words(m.group(), antt) if m.group(1) else m.group()]
+        at = m.end()
+    return "".join([*out, words(text[at:], antt)])
 
 
 def main():
