@@ -33,12 +33,12 @@ pub pieces_front : (sep : ℕ) (f rest : List ℕ) → lacks sep f ≡ true → 
 pieces_front sep [] rest h = cond-true _ _ _ (eq-eqb sep sep refl)
 pieces_front sep (c ∷ cs) rest h = let p = and_parts _ _ h in cond-false _ _ _ (not-true _ p.0) ∙ ap (on_first c) (pieces_front sep cs rest p.1)
 
-abbrev pub all_lack : ℕ → List (List ℕ) → Type 0
-all_lack sep [] = Unit {0}
-all_lack sep (f ∷ fs) = (lacks sep f ≡ true) × all_lack sep fs
+abbrev pub AllLack : ℕ → List (List ℕ) → Type 0
+AllLack sep [] = Unit {0}
+AllLack sep (f ∷ fs) = (lacks sep f ≡ true) × AllLack sep fs
 
 -- joining and cutting gives the pieces back
-pub pieces-joined : (sep : ℕ) (f : List ℕ) (fs : List (List ℕ)) → all_lack sep (f ∷ fs) → pieces sep (joined_by sep (f ∷ fs)) ≡ f ∷ fs
+pub pieces-joined : (sep : ℕ) (f : List ℕ) (fs : List (List ℕ)) → AllLack sep (f ∷ fs) → pieces sep (joined_by sep (f ∷ fs)) ≡ f ∷ fs
 pieces-joined sep f [] h = pieces_one sep f h.0
 pieces-joined sep f (g ∷ fs) h = pieces_front sep f _ h.0 ∙ ap (λ l. f ∷ l) (pieces-joined sep g fs h.1)
 

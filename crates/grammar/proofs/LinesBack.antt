@@ -29,7 +29,7 @@ use Rattle.instructions.specs.declared.types.Operand.TheVariants as operand
 use Rattle.instructions.specs.declared.types.Stage.{Stage}
 use Rattle.grammar.specs.Grammar.{LinesReadBack}
 use Rattle.grammar.specs.Listings.{operand_fits}
-use Rattle.grammar.proofs.Cutting.{all_lack, pieces-joined, printable-append}
+use Rattle.grammar.proofs.Cutting.{AllLack, pieces-joined, printable-append}
 
 -- a field that stands whole in a line
 record Fine (f : List ℕ) : Type 0 where
@@ -41,9 +41,9 @@ abbrev AllFine : List (List ℕ) → Type 0
 AllFine [] = Unit {0}
 AllFine (f ∷ fs) = Fine f × AllFine fs
 
-all_lack_lem : (fs : List (List ℕ)) → AllFine fs → all_lack 32 fs
-all_lack_lem [] h = tt
-all_lack_lem (f ∷ fs) h = (h.0.lacking, all_lack_lem fs h.1)
+all_lack : (fs : List (List ℕ)) → AllFine fs → AllLack 32 fs
+all_lack [] h = tt
+all_lack (f ∷ fs) h = (h.0.lacking, all_lack fs h.1)
 
 all_some_lem : (fs : List (List ℕ)) → AllFine fs → all_some fs ≡ true
 all_some_lem [] h = refl
@@ -152,7 +152,7 @@ Back stage bs n l = (line_checked bs n ≡ Ok tt) × (fields_say stage (pieces 3
 line_back : (stage : Stage) (k : Keyword) (fs : List (List ℕ)) (n : ℕ) (l : Line) → AllFine fs → may_stand stage k ≡ true → line_by k (given_by (map seen_of fs)) n ≡ Ok l → Back stage (joined_by 32 (spelled k ∷ fs)) n l
 line_back stage k fs n l fine may says =
     let all : AllFine (spelled k ∷ fs) = (word_fine k, fine) in
-    let cut = pieces-joined 32 (spelled k) fs (all_lack_lem (spelled k ∷ fs) all) in (
+    let cut = pieces-joined 32 (spelled k) fs (all_lack (spelled k ∷ fs) all) in (
       cond-true _ _ _ (printable-joined (spelled k) fs all) ∙ cond-true _ _ _ (ap all_some cut ∙ all_some_lem (spelled k ∷ fs) all),
       ap (λ ps. fields_say stage ps n) cut ∙ ap (λ o. said_by o (given_by (map seen_of fs)) n) (word_here stage k ∙ cond-true _ _ _ may) ∙ says,
     )
