@@ -1,4 +1,4 @@
-// Prints how many fences each party of routine.txt has and then the routine, or the fault of its text.
+// Prints what became of each fence of routine.txt, how many each party has, and then the thinned routine; or the fault of its text.
 
 #![tactic(auto)]
 
@@ -12,9 +12,7 @@ const MOST_READ: usize = 8193;
 
 fn main(rt: HostRuntime) -> anyhow::Result<()> {
     let text = read_up_to(&rt, "routine.txt", MOST_READ)?;
-    let Ok(report) = fences(rt.alloc(), text.as_slice()) else {
-        return Err(anyhow!("no memory"));
-    };
-    rt.stdout().write_all(report.as_slice())?;
+    let report = fences(rt.alloc(), &text).map_err(|_| anyhow!("no memory"))?;
+    rt.stdout().write_all(&report)?;
     Ok(())
 }

@@ -1,29 +1,23 @@
--- Steps of the loops over a number's digits.
-use Rattle.std.proofs.Common.{◌≡◌, ℕ, ◌+◌, ◌-◌, ◌*◌, ◌<◌, ◌≤◌, Bool, true, false, ◌&&◌, eqb, List, [], ◌∷◌, length, get_or, drop, Some, None, decimal, sym, refl, ap, ◌∙◌, ⊎_elim, arith, rules}
+-- A number's digits, and the number that they write.
+use Rattle.std.proofs.Common.{◌≡◌, ℕ, ◌+◌, ◌-◌, ◌*◌, ◌<◌, ◌≤◌, Bool, true, false, ◌&&◌, eqb, List, [], ◌∷◌, length, get_or, drop, Some, None, decimal, sym, refl, ap, ⊎_elim, arith, rules}
 use Rattle.std.specs.Char.{is_ascii_digit}
+use Rattle.std.specs.List.{list_all}
 use Rattle.std.specs.Str.{all_ascii_digits}
-use Rattle.std.proofs.lemmas.List.{at_drop_more, at_drop_all}
+use Rattle.std.proofs.lemmas.List.{at_drop_more}
+use Rattle.std.proofs.lemmas.List.Recursion.{same_from_clauses}
 use Rattle.std.proofs.lemmas.Bool.{and_parts, lt-leb, le-leb, cond-true, cond-false, eqb-true, eq-eqb, cases_lt}
 use Rattle.std.proofs.lemmas.Str.Parse.{IsNumeralModel, numerals_by_fold, tells_all_ascii_digits}
 use Rattle.std.proofs.lemmas.Fmt.{digits_decimal, digits_value-decimal, decimal-digits_value, decimal_nonempty, first_decimal, decimal_digit}
 use Rattle.fields.specs.Numbers.{WrittenReadsBack, ReadIsWritten, value_on, value_of, is_numeral, up_to}
 
-pub digits_yes : (ds : List ℕ) (i : ℕ) → i < length ds → is_ascii_digit (get_or ds i 0) ≡ true → all_ascii_digits (drop i ds) ≡ all_ascii_digits (drop (i + 1) ds)
-digits_yes ds i h d = at_drop_more all_ascii_digits ds i 0 h ∙ ap (λ b. b && all_ascii_digits (drop (i + 1) ds)) d
+-- what `all` answers of the digits
+pub list_all-digits : (ds : List ℕ) → list_all is_ascii_digit ds ≡ all_ascii_digits ds
+list_all-digits ds = same_from_clauses (list_all is_ascii_digit) all_ascii_digits (λ c b. is_ascii_digit c && b) refl (λ _ _. refl) (λ _ _. refl) ds
 
-pub digits_no : (ds : List ℕ) (i : ℕ) → i < length ds → is_ascii_digit (get_or ds i 0) ≡ false → all_ascii_digits (drop i ds) ≡ false
-digits_no ds i h d = at_drop_more all_ascii_digits ds i 0 h ∙ ap (λ b. b && all_ascii_digits (drop (i + 1) ds)) d
-
-pub digits_parts : (ds : List ℕ) (i : ℕ) → i < length ds → all_ascii_digits (drop i ds) ≡ true → (is_ascii_digit (get_or ds i 0) ≡ true) × (all_ascii_digits (drop (i + 1) ds) ≡ true)
-digits_parts ds i h d = and_parts _ _ (sym (at_drop_more all_ascii_digits ds i 0 h) ∙ d)
-
-pub value_step : (n : ℕ) (ds : List ℕ) (i : ℕ) → i < length ds → value_on n (drop i ds) ≡ value_on (10 * n + (get_or ds i 0 - 48)) (drop (i + 1) ds)
+value_step : (n : ℕ) (ds : List ℕ) (i : ℕ) → i < length ds → value_on n (drop i ds) ≡ value_on (10 * n + (get_or ds i 0 - 48)) (drop (i + 1) ds)
 value_step n ds i h = at_drop_more (value_on n) ds i 0 h
 
-pub value_end : (n : ℕ) (ds : List ℕ) (i : ℕ) → length ds ≤ i → value_on n (drop i ds) ≡ n
-value_end n ds i h = at_drop_all (value_on n) ds i h
-
-pub value_le : (n : ℕ) (ds : List ℕ) → n ≤ value_on n ds
+value_le : (n : ℕ) (ds : List ℕ) → n ≤ value_on n ds
 value_le n [] = omega arith
 value_le n (c ∷ cs) = omega (arith, value_le (10 * n + (c - 48)) cs)
 

@@ -1,61 +1,49 @@
--- A field cut off the current line.
-use Rattle.std.proofs.Common.{◌≡◌, ℕ, ◌+◌, ◌-◌, ◌<◌, ◌≤◌, true, false, List, [], ◌∷◌, length, take, drop, sym, ap, ◌∙◌, arith}
-use Rattle.std.specs.List.{prefix_len}
-use Rattle.std.proofs.lemmas.List.{length-drop, length-take-le, drop-drop, take-take, take_all, drop-take}
-use Rattle.std.proofs.lemmas.List.Sums.{prefix_len-le-length}
-use Rattle.std.proofs.lemmas.Bool.{cond-true, cond-false}
-use Rattle.fields.specs.declared.reader.Reader.{Reader}
-use Rattle.fields.specs.Pieces.{pieces, other}
-use Rattle.fields.specs.Readers.{fields_left, NextField}
+-- Where a line stands in the text, and a field that is cut off what is left of it.
+use Rattle.std.proofs.Common.{◌≡◌, ℕ, ◌+◌, ◌≤◌, List, [], ◌∷◌, ◌++◌, length, take, drop, sym, ap, ◌∙◌, arith}
+use Rattle.std.proofs.lemmas.List.{length-drop, length-take, drop-drop, take-take, drop-take}
+use Rattle.fields.specs.Newlines.{newlines}
+use Rattle.fields.specs.Pieces.{IsSplit}
 use Rattle.fields.specs.Tokens.{At}
-use Rattle.fields.proofs.Answered.{cut_line}
-use Rattle.fields.proofs.Cuts.{pieces_last}
+use Rattle.fields.proofs.Cuts.{take_split, front_split, drop_split, length_split}
+use Rattle.fields.proofs.Counting.{newlines-append, newlines_add}
 
-pub stretch_length : (xs : List ℕ) (a b : ℕ) → a ≤ b → b ≤ length xs → length (take (b - a) (drop a xs)) ≡ b - a
-stretch_length xs a b low high = length-take-le (b - a) (drop a xs) (simp length-drop (omega arith))
+-- a line that a byte 10 ends
+pub line_stands : (text bytes after : List ℕ) (line place : ℕ) → IsSplit 10 (drop place text) bytes after → line ≡ newlines (take place text) → At text bytes (line + 1) place
+line_stands text bytes after line place split counted = record { own = sym (front_split 10 (drop place text) bytes after split); counted = omega arith }
 
--- what is left of a stretch after n + 1 of its bytes
-stretch_past : (xs : List ℕ) (a b n : ℕ) → a + (n + 1) ≤ b → drop (n + 1) (take (b - a) (drop a xs)) ≡ take (b - (a + (n + 1))) (drop (a + (n + 1)) xs)
-stretch_past xs a b n h =
-    let e : b - a ≡ (n + 1) + (b - (a + (n + 1))) = omega arith in
-    ap (λ k. drop (n + 1) (take k (drop a xs))) e ∙ drop-take (n + 1) (b - (a + (n + 1))) (drop a xs) ∙ ap (take (b - (a + (n + 1)))) (drop-drop (n + 1) a xs)
+module _ (text rest : List ℕ) (line place : ℕ) (at : At text rest line place) where
+  -- what stands in the text ends there
+  pub rest_within : place ≤ length text → place + length rest ≤ length text
+  rest_within low = omega (arith, ap length at.own, length-take (length rest) (drop place text), length-drop place text)
 
-module _ (r : Reader) (bytes : List ℕ) (n : ℕ) (on : r.more ≡ true) (cuts : bytes ≡ take (n - 0) (take (r.stop - r.place) (drop r.place r.text.now))) where
-  first : bytes ≡ take n (take (r.stop - r.place) (drop r.place r.text.now))
-  first = cuts ∙ ap (λ k. take k (take (r.stop - r.place) (drop r.place r.text.now))) (let e : n - 0 ≡ n = omega arith in e)
+  module _ (field others : List ℕ) (split : IsSplit 32 rest field others) where
+    len : length rest ≡ length field + 1 + length others
+    len = length_split 32 rest field others split
 
-  stands : n ≤ r.stop - r.place → At r.text.now bytes r.line r.place
-  stands le =
-      let short : bytes ≡ take n (drop r.place r.text.now) = first ∙ take-take n (r.stop - r.place) (drop r.place r.text.now) le in
-      let len : length bytes ≡ n = ap length short ∙ length-take-le n (drop r.place r.text.now) (simp length-drop (omega (arith, r.stop_within, r.place_within))) in
-      record {
-        own = short ∙ ap (λ k. take k (drop r.place r.text.now)) (sym len);
-        counted = sym (sym (cond-true _ _ _ on) ∙ r.numbered);
-      }
+    -- so many bytes of the text from there on are those of the rest
+    front : (n : ℕ) → n ≤ length rest → take n (drop place text) ≡ take n rest
+    front n le = sym (take-take n (length rest) (drop place text) le) ∙ sym (ap (take n) at.own)
 
-module _ (r s : Reader) (bytes : List ℕ) (n : ℕ) (on : r.more ≡ true) (cuts : bytes ≡ take (n - 0) (take (r.stop - r.place) (drop r.place r.text.now))) (lead : n ≡ prefix_len (other 32) (take (r.stop - r.place) (drop r.place r.text.now))) (text : s.text.now ≡ r.text.now) (line : s.line ≡ r.line) (next : s.next ≡ r.next) where
-  pub next_field_more : n < length (take (r.stop - r.place) (drop r.place r.text.now)) → s.place ≡ r.place + (n + 1) → s.stop ≡ r.stop → s.more ≡ r.more → NextField bytes r s
-  next_field_more some on-place on-stop on-more =
-      let len = stretch_length r.text.now r.place r.stop r.place_within r.stop_within in
-      let left : fields_left s ≡ pieces 32 (drop (n + 1) (take (r.stop - r.place) (drop r.place r.text.now))) =
-      cond-true _ _ _ (on-more ∙ on) ∙ (λ i. pieces 32 (take (on-stop i - on-place i) (drop (on-place i) (text i)))) ∙ ap (pieces 32) (sym (stretch_past r.text.now r.place r.stop n (omega arith))) in
-      record {
-        text = text;
-        line = line;
-        next = next;
-        cut = cond-true _ _ _ on ∙ cut_line 32 _ n lead some ∙ (λ i. sym (first r bytes n on cuts) i ∷ sym left i);
-        stands = stands r bytes n on cuts (omega arith);
-      }
+    pub field_stands : At text field line place
+    field_stands = record { own = sym (front (length field) (omega (arith, len)) ∙ front_split 32 rest field others split); counted = at.counted }
 
-  pub next_field_last : length (take (r.stop - r.place) (drop r.place r.text.now)) ≤ n → s.more ≡ false → NextField bytes r s
-  next_field_last none off =
-      let len = stretch_length r.text.now r.place r.stop r.place_within r.stop_within in
-      let within = prefix_len-le-length (other 32) (take (r.stop - r.place) (drop r.place r.text.now)) in
-      let whole = take_all n (take (r.stop - r.place) (drop r.place r.text.now)) none in
-      record {
-        text = text;
-        line = line;
-        next = next;
-        cut = cond-true _ _ _ on ∙ pieces_last 32 _ (omega arith) ∙ (λ i. sym (first r bytes n on cuts ∙ whole) i ∷ sym (cond-false s.more (pieces 32 (take (s.stop - s.place) (drop s.place s.text.now))) [] off) i);
-        stands = stands r bytes n on cuts (omega arith);
-      }
+    none : newlines rest ≡ 0 → (newlines field ≡ 0) × (newlines others ≡ 0)
+    none h =
+        let e : newlines rest ≡ newlines field + newlines others = ap newlines split.whole ∙ newlines-append field (32 ∷ others) in
+        (omega arith, omega arith)
+
+    pub others_unbroken : newlines rest ≡ 0 → newlines others ≡ 0
+    others_unbroken h = (none h).1
+
+    others_own : others ≡ take (length others) (drop (place + (length field + 1)) text)
+    others_own =
+        let n = length field + 1 in
+        sym (drop_split 32 rest field others split) ∙ ap (drop n) at.own ∙ ap (λ k. drop n (take k (drop place text))) len
+        ∙ drop-take n (length others) (drop place text) ∙ ap (take (length others)) (drop-drop n place text)
+
+    pub others_stand : newlines rest ≡ 0 → At text others line (place + (length field + 1))
+    others_stand h =
+        let n = length field + 1 in
+        let some : newlines (take n (drop place text)) ≡ newlines (field ++ (32 ∷ [])) = ap newlines (front n (omega (arith, len)) ∙ take_split 32 rest field others split) in
+        let more : newlines (field ++ (32 ∷ [])) ≡ newlines field + 0 = newlines-append field (32 ∷ []) in
+        record { own = others_own; counted = omega (arith, at.counted, newlines_add place n text, (none h).0) }

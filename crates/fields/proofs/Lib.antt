@@ -1,7 +1,7 @@
+pub mod Figures
 pub mod Cuts
 pub mod Digits
-pub mod Spaces
 pub mod Answered
 pub mod Counting
-pub mod Figures
 pub mod Fields
+pub mod Spaces

@@ -1,6 +1,5 @@
 -- How many bytes 10 a text has: a place's line is one more than those before it.
-use Rattle.std.specs.Prelude.{ℕ, suc, cond, List, [], ◌∷◌, ◌==◌}
+use Rattle.std.specs.Prelude.{ℕ, List, count_by, ◌==◌}
 
 abbrev pub newlines : List ℕ → ℕ
-newlines [] = 0
-newlines (c ∷ cs) = cond (c == 10) (suc (newlines cs)) (newlines cs)
+newlines text = count_by (λ c. c == 10) text

@@ -1,15 +1,15 @@
 -- A text cut at each separator, and put together again.
-use Rattle.std.specs.Prelude.{ℕ, Bool, true, cond, not, ◌&&◌, List, [], ◌∷◌, ◌++◌, ◌==◌}
+use Rattle.std.specs.Prelude.{◌≡◌, ℕ, Bool, true, not, List, ◌∷◌, ◌++◌, Some, None, Option, ◌==◌}
+use Rattle.std.specs.Borrow.{Bor}
+use Rattle.std.specs.List.{list_all, slice_split, onto_first, join_with_byte}
 
 -- a byte put before the first piece
 abbrev pub on_first : ℕ → List (List ℕ) → List (List ℕ)
-on_first c [] = (c ∷ []) ∷ []
-on_first c (f ∷ fs) = (c ∷ f) ∷ fs
+on_first c fs = onto_first c fs
 
 -- the pieces between the separators: one more than there are separators
 abbrev pub pieces : ℕ → List ℕ → List (List ℕ)
-pieces sep [] = [] ∷ []
-pieces sep (c ∷ cs) = cond (c == sep) ([] ∷ pieces sep cs) (on_first c (pieces sep cs))
+pieces sep text = slice_split (λ c. c == sep) text
 
 -- whether a byte is none of the separators
 abbrev pub other : ℕ → ℕ → Bool
@@ -17,11 +17,18 @@ other sep c = not (c == sep)
 
 -- the pieces with the separator between them
 abbrev pub joined_by : ℕ → List (List ℕ) → List ℕ
-joined_by sep [] = []
-joined_by sep (f ∷ []) = f
-joined_by sep (f ∷ (g ∷ fs)) = f ++ (sep ∷ joined_by sep (g ∷ fs))
+joined_by sep fs = join_with_byte sep fs
 
 -- whether no byte is the separator
 abbrev pub lacks : ℕ → List ℕ → Bool
-lacks sep [] = true
-lacks sep (c ∷ cs) = other sep c && lacks sep cs
+lacks sep text = list_all (other sep) text
+
+-- the first separator of a text, with the bytes before it and after it
+pub record IsSplit (sep : ℕ) (text before after : List ℕ) : Type 0 where
+  pub whole : text ≡ before ++ (sep ∷ after)
+  pub first : lacks sep before ≡ true
+
+-- the answer to a cut at the first separator
+abbrev pub SplitOnce : ℕ → List ℕ → Option (Bor (List ℕ) × Bor (List ℕ)) → Type 0
+SplitOnce sep text None = lacks sep text ≡ true
+SplitOnce sep text (Some p) = IsSplit sep text p.0.now p.1.now

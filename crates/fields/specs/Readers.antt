@@ -1,5 +1,6 @@
 -- What a reader has yet to give, and what each call leaves.
-use Rattle.std.specs.Prelude.{◌≡◌, ℕ, suc, ◌-◌, Bool, cond, List, [], ◌∷◌, take, drop, Some, None, Ok, Err, MatchBool, Option, Result}
+use Rattle.std.specs.Prelude.{◌≡◌, ℕ, suc, Bool, List, [], ◌∷◌, drop, Some, None, Ok, Err, MatchBool, Option, Result}
+use Rattle.std.specs.Option.{option_map_or}
 use Rattle.fields.specs.declared.faults.FieldFault.{FieldFault}
 use Rattle.fields.specs.declared.reader.Reader.{Reader}
 use Rattle.fields.specs.declared.tokens.Token.{Token}
@@ -12,7 +13,7 @@ lines_left r = pieces 10 (drop r.next r.text.now)
 
 -- the fields of the current line that are left
 abbrev pub fields_left : Reader → List (List ℕ)
-fields_left r = cond r.more (pieces 32 (take (r.stop - r.place) (drop r.place r.text.now))) []
+fields_left r = option_map_or (λ bytes. pieces 32 bytes.now) r.rest []
 
 -- s is r one line on: its fields are those of the first line that r had left
 pub record NextLine (r s : Reader) : Type 0 where

@@ -1,5 +1,5 @@
 -- The letters of the registers.
-use Rattle.std.specs.Prelude.{ℕ, cond, List, [], ◌∷◌, Some, None, Option, ◌==◌}
+use Rattle.std.specs.Prelude.{ℕ, if◌then◌else◌, List, [], ◌∷◌, Some, None, Option, ◌==◌}
 use Rattle.fields.specs.declared.registers.Register.{Register}
 use Rattle.fields.specs.declared.registers.Register.TheVariants.{A, B, C, D}
 
@@ -10,7 +10,12 @@ letter_of C = 67
 letter_of D = 68
 
 abbrev pub by_letter : ℕ → Option Register
-by_letter b = cond (b == 65) (Some A) (cond (b == 66) (Some B) (cond (b == 67) (Some C) (cond (b == 68) (Some D) None)))
+by_letter b =
+    if b == 65 then Some A
+    else if b == 66 then Some B
+    else if b == 67 then Some C
+    else if b == 68 then Some D
+    else None
 
 -- the register that a field names: it is one of the letters, and nothing more
 abbrev pub register_of : List ℕ → Option Register

@@ -1,29 +1,23 @@
 -- What the reader's inner steps say.
-use Rattle.std.specs.Prelude.{◌≡◌, ℕ, ◌<◌, true, List, [], ◌∷◌, length, drop, Some, None, Option}
+use Rattle.std.specs.Prelude.{◌≡◌, ℕ, true, List, [], ◌∷◌, drop, Some, None, Ok, Err, Option, Result}
 use Rattle.std.specs.Borrow.{Bor}
-use Rattle.std.specs.List.{prefix_len}
+use Rattle.fields.specs.declared.faults.FieldFault.{FieldFault}
+use Rattle.fields.specs.declared.faults.FieldFault.TheVariants.{Bytes}
 use Rattle.fields.specs.declared.reader.Reader.{Reader}
-use Rattle.fields.specs.declared.reader.next_line.Ahead.{Ahead}
-use Rattle.fields.specs.declared.reader.next_line.Ahead.TheVariants.{End, Unended, Line}
 use Rattle.fields.specs.Lines.{some}
-use Rattle.fields.specs.Pieces.{other}
+use Rattle.fields.specs.Pieces.{IsSplit}
 use Rattle.fields.specs.Readers.{fields_left, NextField}
 
--- what lies ahead, by the pieces that are left
-abbrev pub LiesAhead : Ahead → List (List ℕ) → Type 0
-LiesAhead End ps = ps ≡ [] ∷ []
-LiesAhead Unended ps = (l : List ℕ) × ((some l ≡ true) × (ps ≡ l ∷ []))
-LiesAhead (Line bs) ps = (l : List ℕ) × ((ls : List (List ℕ)) × (ps ≡ bs.now ∷ (l ∷ ls)))
+-- what lies ahead, by the pieces that are left and the number of the line ahead
+abbrev pub LiesAhead : Result (Option (Bor (List ℕ))) FieldFault → List (List ℕ) → ℕ → Type 0
+LiesAhead (Ok None) ps line = ps ≡ [] ∷ []
+LiesAhead (Ok (Some bs)) ps line = (l : List ℕ) × ((ls : List (List ℕ)) × (ps ≡ bs.now ∷ (l ∷ ls)))
+LiesAhead (Err e) ps line = (e ≡ Bytes line) × ((l : List ℕ) × ((some l ≡ true) × (ps ≡ l ∷ [])))
 
--- the line ahead has that many bytes, with byte 10 after them
-pub record LineOf (r : Reader) (len : ℕ) : Type 0 where
-  pub leads : len ≡ prefix_len (other 10) (drop r.next r.text.now)
-  pub ends : len < length (drop r.next r.text.now)
-
-abbrev pub LineFits : Ahead → Reader → Type 0
-LineFits End r = Unit {0}
-LineFits Unended r = r.next < length r.text.now
-LineFits (Line bs) r = (r.next < length r.text.now) × LineOf r (length bs.now)
+-- the line ahead, with byte 10 after it
+pub record IsAhead (r : Reader) (bytes : List ℕ) : Type 0 where
+  pub after : List ℕ
+  pub split : IsSplit 10 (drop r.next r.text.now) bytes after
 
 -- after the answer to a call for the next field's bytes
 abbrev pub AfterCut : Option (Bor (List ℕ)) → Reader → Reader → Type 0

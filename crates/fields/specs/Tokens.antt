@@ -1,5 +1,5 @@
 -- What a field is, and where its token stands.
-use Rattle.std.specs.Prelude.{◌≡◌, ℕ, suc, Bool, false, cond, List, [], ◌∷◌, length, take, drop, Some, None, Option}
+use Rattle.std.specs.Prelude.{◌≡◌, ℕ, suc, Bool, false, if◌then◌else◌, List, [], ◌∷◌, length, take, drop, Some, None, Option}
 use Rattle.std.specs.Str.{bytes_eq}
 use Rattle.fields.specs.declared.registers.Register.{Register}
 use Rattle.fields.specs.declared.tokens.Token.{Token}
@@ -15,28 +15,28 @@ pub data Seen : Type 0 where
   number : List ℕ → Seen
 
 abbrev pub seen : Token → Seen
-seen (token.Word t l p) = word t.now
-seen (token.Register r l p) = register r
-seen (token.Number d l p) = number d.now
+seen (token.Word t p) = word t.now
+seen (token.Register r p) = register r
+seen (token.Number d p) = number d.now
 
 abbrev pub bytes_of : Token → List ℕ
-bytes_of (token.Word t l p) = t.now
-bytes_of (token.Register r l p) = letter_of r ∷ []
-bytes_of (token.Number d l p) = d.now
+bytes_of (token.Word t p) = t.now
+bytes_of (token.Register r p) = letter_of r ∷ []
+bytes_of (token.Number d p) = d.now
 
 abbrev pub line_of : Token → ℕ
-line_of (token.Word t l p) = l
-line_of (token.Register r l p) = l
-line_of (token.Number d l p) = l
+line_of (token.Word t p) = p.line
+line_of (token.Register r p) = p.line
+line_of (token.Number d p) = p.line
 
 abbrev pub place_of : Token → ℕ
-place_of (token.Word t l p) = p
-place_of (token.Register r l p) = p
-place_of (token.Number d l p) = p
+place_of (token.Word t p) = p.index
+place_of (token.Register r p) = p.index
+place_of (token.Number d p) = p.index
 
 abbrev pub seen_by : Option Register → List ℕ → Seen
 seen_by (Some r) bs = register r
-seen_by None bs = cond (is_numeral bs) (number bs) (word bs)
+seen_by None bs = if is_numeral bs then number bs else word bs
 
 -- the kind of a field: a register's letter, else a number, else a word
 abbrev pub seen_of : List ℕ → Seen

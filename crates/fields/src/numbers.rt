@@ -1,10 +1,6 @@
 // Decimal numbers as they are read: digits with no leading zero, but for 0 itself.
 ghost use Rattle.std.specs.Prelude.{◌≡◌};
-ghost use Rattle.std.specs.Str.{all_ascii_digits};
-ghost use Rattle.fields.specs.Numbers.{is_numeral, value_of, capped, up_to};
-
-// One more than a register or a word can hold.
-const CAP: u64 = 4294967296;
+ghost use Rattle.fields.specs.Numbers.{is_numeral, value_of, up_to};
 
 // Whether a field is a number, of any length.
 pub(crate) fn is_numeral(field: &[u8]) -> bool
@@ -13,43 +9,19 @@ pub(crate) fn is_numeral(field: &[u8]) -> bool
     match field {
         [] => false,
         [b'0', _, ..] => false,
-        _ => all_digits(field),
+        _ => field.iter().all(u8::is_ascii_digit),
     }
 }
 
-fn all_digits(field: &[u8]) -> bool
-    ensures { result ≡ all_ascii_digits field.now }
-{
-    for c in field {
-        if !c.is_ascii_digit() {
-            return false;
-        }
-    }
-    true
-}
-
-// The number that the digits write, but 2^32 where it is that or more: any count of digits may be passed.
-fn capped_value(digits: &[u8]) -> u64
-    ensures { result ≡ capped (value_of digits.now) }
-{
-    let mut n: u64 = 0;
-    for c in digits {
-        n = 10 * n + c.saturating_sub(b'0') as u64;
-        if n >= CAP {
-            return CAP;
-        }
-    }
-    n
-}
-
-// The number that the digits write, where it is at most max.
+// The number that the digits write, where it is at most max: any count of digits may be passed.
+#[tactic(auto, using(crate::proofs::Digits::value_over, crate::proofs::Digits::up_to_no))]
 pub fn value_up_to(digits: &[u8], max: u32) -> Option<u32>
     ensures { result ≡ up_to max (value_of digits.now) }
 {
-    let n = capped_value(digits);
-    if n <= max as u64 {
-        Some(n as u32)
-    } else {
-        None
+    let mut value: u32 = 0;
+    for digit in digits {
+        let ones = u32::from(digit.saturating_sub(b'0'));
+        value = value.checked_mul(10)?.checked_add(ones)?;
     }
+    (value <= max).then_some(value)
 }

@@ -23,13 +23,14 @@ impl Register {
     }
 
     // The register that a field names, if it is a register's letter.
+    // An Option, and no TryFrom with an error type: another field is no error, but of another kind.
     pub(crate) fn named(field: &[u8]) -> Option<Register>
         ensures { result ≡ register_of field.now }
     {
-        let [b] = field else {
+        let [letter] = field else {
             return None;
         };
-        match *b as char {
+        match char::from(*letter) {
             'A' => Some(Register::A),
             'B' => Some(Register::B),
             'C' => Some(Register::C),

@@ -2,27 +2,21 @@
 
 #![tactic(auto)]
 
-ghost use Rattle.std.specs.Prelude.{◌≤◌, length, IfOk, vec_len};
+ghost use Rattle.std.specs.Prelude.{◌≤◌, IfOk, vec_len};
 
 use std::alloc::AllocError;
 use std::io::Read;
 use std::rt::Files;
 use std::{fs, io};
 
-// Fills the buffer from its start, until it is full or the input ends: how many bytes came.
-// Each turn but the last puts a byte at least, so the buffer's length counts the turns, whether or not the input ends.
-fn fill<I: Read>(input: &mut I, buffer: &mut [u8]) -> io::Result<usize>
-    ensures { IfOk result (λ n. n ≤ length buffer.new) }
-{
-    let mut filled = 0;
-    while filled < buffer.len() {
-        let count = input.read(&mut buffer[filled..])?;
-        if count == 0 {
-            break;
-        }
-        filled += count;
-    }
-    Ok(filled)
+// Adds the first `limit` bytes of the file, or all of a shorter one: how many came.
+fn read_file<R: Files>(
+    files: &R,
+    path: &str,
+    limit: usize,
+    bytes: &mut Vec<u8>,
+) -> io::Result<usize> {
+    fs::open(files, path)?.take(limit as u64).read_to_end(bytes)
 }
 
 // The first `limit` bytes of the file, or all of a shorter one.
@@ -35,11 +29,11 @@ pub fn read_up_to<R: Files + AllocGlobal>(
 ) -> Result<Vec<u8>, AllocError>
     ensures { IfOk result (λ v. vec_len v ≤ limit) }
 {
-    let mut bytes = vec![in rt.alloc(); 0; limit]?;
-    let count = match fs::open(rt, path) {
-        Ok(mut file) => fill(&mut file, bytes.as_mut_slice()).unwrap_or(0),
-        Err(_) => 0,
-    };
-    bytes.truncate(count);
+    // The place for one byte more is where the reading finds the end, so it wants no memory of its own.
+    let mut bytes = Vec::with_capacity(rt.alloc(), limit.saturating_add(1))?;
+    if read_file(rt, path, limit, &mut bytes).is_err() {
+        bytes.clear();
+    }
+    bytes.truncate(limit);
     Ok(bytes)
 }

@@ -1,13 +1,12 @@
 -- Drafts, and the parts of being lawful.
-use Rattle.std.proofs.Common.{◌≡◌, ◌≤◌, true, false, ltb, leb, List, [], ◌∷◌, ◌++◌, length, refl}
+use Rattle.std.proofs.Common.{◌≡◌, ◌≤◌, true, leb, List, [], ◌∷◌, ◌++◌, length, refl}
 use Rattle.std.proofs.lemmas.Bool.{and_parts, and_from, leb-true, le-leb}
-use Rattle.instructions.specs.Keywords.{may_stand}
+use Rattle.instructions.specs.Keywords.{may_stand, is_inside}
 use Rattle.instructions.specs.declared.types.Init.{Init}
 use Rattle.instructions.specs.declared.types.Instruction.{Instruction}
 use Rattle.instructions.specs.declared.types.Instruction.TheVariants.{Load, Store, Exchange, Fence, Nop, Set, Add, JumpNonzero, Jump}
 use Rattle.instructions.specs.declared.types.Line.TheVariants as line
 use Rattle.instructions.specs.declared.types.Stage.{Stage}
-use Rattle.instructions.specs.declared.types.Stage.TheVariants.{Before, Inside, Between}
 use Rattle.grammar.specs.Grammar.{word_of}
 use Rattle.grammar.specs.Listings.{Listing, fewest_parties, rising, lawful, parties_lawful, parties_fit, inits_fit, addresses_of}
 use Rattle.grammar.specs.Reads.{Draft, above}
@@ -15,52 +14,30 @@ use Rattle.grammar.specs.Reads.{Draft, above}
 abbrev pub draft : List Init → List (List Instruction) → List Instruction → Stage → Draft
 draft is ps c s = record { inits = is; parties = ps; current = c; stage = s }
 
--- where an instruction may stand
-pub inside_stands : (i : Instruction) → may_stand Inside (word_of (line.Instruction i)) ≡ true
-inside_stands (Load r a) = refl
-inside_stands (Store a s) = refl
-inside_stands (Exchange r a) = refl
-inside_stands Fence = refl
-inside_stands Nop = refl
-inside_stands (Set r s) = refl
-inside_stands (Add r s) = refl
-inside_stands (JumpNonzero r t) = refl
-inside_stands (Jump t) = refl
-
-pub before_not : (i : Instruction) → may_stand Before (word_of (line.Instruction i)) ≡ false
-before_not (Load r a) = refl
-before_not (Store a s) = refl
-before_not (Exchange r a) = refl
-before_not Fence = refl
-before_not Nop = refl
-before_not (Set r s) = refl
-before_not (Add r s) = refl
-before_not (JumpNonzero r t) = refl
-before_not (Jump t) = refl
-
-pub between_not : (i : Instruction) → may_stand Between (word_of (line.Instruction i)) ≡ false
-between_not (Load r a) = refl
-between_not (Store a s) = refl
-between_not (Exchange r a) = refl
-between_not Fence = refl
-between_not Nop = refl
-between_not (Set r s) = refl
-between_not (Add r s) = refl
-between_not (JumpNonzero r t) = refl
-between_not (Jump t) = refl
+-- an instruction may stand inside a party only
+pub instruction_stands : (s : Stage) (i : Instruction) → may_stand s (word_of (line.Instruction i)) ≡ is_inside s
+instruction_stands s (Load r a) = refl
+instruction_stands s (Store a o) = refl
+instruction_stands s (Exchange r a) = refl
+instruction_stands s Fence = refl
+instruction_stands s Nop = refl
+instruction_stands s (Set r o) = refl
+instruction_stands s (Add r o) = refl
+instruction_stands s (JumpNonzero r t) = refl
+instruction_stands s (Jump t) = refl
 
 -- among rising addresses, each is above those before it
 pub rising-above : (got : List Init) (i : Init) (is : List Init) → rising (got ++ (i ∷ is)) ≡ true → above i.address got ≡ true
 rising-above [] i is h = refl
-rising-above (g ∷ []) i is h = (and_parts (ltb g.address i.address) (rising (i ∷ is)) h).0
-rising-above (g ∷ (k ∷ ks)) i is h = rising-above (k ∷ ks) i is (and_parts (ltb g.address k.address) (rising (k ∷ (ks ++ (i ∷ is)))) h).1
+rising-above (g ∷ []) i is h = (and_parts _ _ h).0
+rising-above (g ∷ (k ∷ ks)) i is h = rising-above (k ∷ ks) i is (and_parts _ _ h).1
 
 pub rising_snoc : (got : List Init) (i : Init) → rising got ≡ true → above i.address got ≡ true → rising (got ++ (i ∷ [])) ≡ true
 rising_snoc [] i r h = refl
-rising_snoc (g ∷ []) i r h = and_from (ltb g.address i.address) true h refl
+rising_snoc (g ∷ []) i r h = and_from _ _ h refl
 rising_snoc (g ∷ (k ∷ ks)) i r h =
-    let p = and_parts (ltb g.address k.address) (rising (k ∷ ks)) r in
-    and_from (ltb g.address k.address) (rising (k ∷ (ks ++ (i ∷ [])))) p.0 (rising_snoc (k ∷ ks) i p.1 h)
+    let p = and_parts _ _ r in
+    and_from _ _ p.0 (rising_snoc (k ∷ ks) i p.1 h)
 
 -- the limits, one by one
 pub record Limits (l : Listing) : Type 0 where

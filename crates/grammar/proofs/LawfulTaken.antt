@@ -13,7 +13,7 @@ use Rattle.grammar.specs.Listings.{Listing, rising, party_lawful, parties_lawful
 use Rattle.grammar.specs.Reads.{Draft, blank, outside}
 use Rattle.grammar.specs.Texts.{code_lines, party_lines, init_lines, lines_of}
 use Rattle.grammar.proofs.LineLists.{Step, Taken}
-use Rattle.grammar.proofs.Drafts.{draft, inside_stands, rising-above, Limits}
+use Rattle.grammar.proofs.Drafts.{draft, instruction_stands, rising-above, Limits}
 
 -- the lines are taken, and leave these INIT lines and parties, and none open
 pub record Reaches (n : ℕ) (d : Draft) (ls : List Line) (is : List Init) (ps : List (List Instruction)) : Type 0 where
@@ -43,7 +43,7 @@ reach_code (i ∷ code) n is ps c more js qs h k go =
     let room : length c < 32 = omega (arith, length-append c (i ∷ code)) in
     let f = and_parts (instruction_fits i) (code_fits code) k in
     reach_more n (draft is ps c Inside) (line.Instruction i) (draft is ps (c ++ (i ∷ [])) Inside) (code_lines code more) js qs
-    (record { fits = f.0; stands = inside_stands i; joins = cond-true _ _ _ (lt-ltb _ _ room) })
+    (record { fits = f.0; stands = instruction_stands Inside i; joins = cond-true _ _ _ (lt-ltb _ _ room) })
     (reach_code code (suc n) is ps (c ++ (i ∷ [])) more js qs (subst (λ x. party_lawful x ≡ true) (sym e) h) f.1 (λ m. subst (λ x. Reaches m (draft is (ps ++ (x ∷ [])) [] Between) more js qs) (sym e) (go m)))
 
 -- the rest of the parties, where none is open

@@ -30,7 +30,7 @@ operand_short (operand.Constant n) h = word_short n h
 instruction_short : (i : Instruction) → instruction_fits i ≡ true → length (line_text (line.Instruction i)) ≤ 19
 instruction_short (Load r a) h = let k = address_short a h in omega arith
 instruction_short (Store a s) h =
-    let b = and_parts (leb a 65535) (operand_fits s) h in
+    let b = and_parts _ _ h in
     let k = address_short a b.0 in
     let m = operand_short s b.1 in
     omega (arith, length-append (decimal a) (32 ∷ operand_text s))
@@ -44,7 +44,7 @@ instruction_short (Jump t) h = let k = target_short t h in omega arith
 
 init_short : (i : Init) → init_fits i ≡ true → length (line_text (line.Init i)) ≤ 21
 init_short i h =
-    let b = and_parts (leb i.address 65535) (leb i.value 4294967295) h in
+    let b = and_parts _ _ h in
     let k = address_short i.address b.0 in
     let m = word_short i.value b.1 in
     omega (arith, length-append (decimal i.address) (32 ∷ decimal i.value))
@@ -52,7 +52,7 @@ init_short i h =
 code_length : (is : List Instruction) (more : List Line) → code_fits is ≡ true → length (ended (code_lines is more)) ≤ 20 * length is + 4 + length (ended more)
 code_length [] more h = omega arith
 code_length (i ∷ is) more h =
-    let b = and_parts (instruction_fits i) (code_fits is) h in
+    let b = and_parts _ _ h in
     let k = instruction_short i b.0 in
     let m = code_length is more b.1 in
     omega (arith, length-append (line_text (line.Instruction i)) (10 ∷ ended (code_lines is more)))
@@ -71,7 +71,7 @@ parties_length (p ∷ ps) h k =
 inits_length : (is : List Init) (more : List Line) → inits_fit is ≡ true → length (ended (init_lines is more)) ≤ 22 * length is + length (ended more)
 inits_length [] more h = omega arith
 inits_length (i ∷ is) more h =
-    let b = and_parts (init_fits i) (inits_fit is) h in
+    let b = and_parts _ _ h in
     let k = init_short i b.0 in
     let m = inits_length is more b.1 in
     omega (arith, length-append (line_text (line.Init i)) (10 ∷ ended (init_lines is more)))

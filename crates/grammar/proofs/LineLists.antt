@@ -1,5 +1,5 @@
 -- Whole lines: a text cut at its bytes 10 is read line by line, each line joining the draft.
-use Rattle.std.proofs.Common.{◌≡◌, ℕ, suc, Bool, true, false, cond, List, [], ◌∷◌, ◌++◌, Some, Ok, Err, Result, refl, ap, ◌∙◌, arith}
+use Rattle.std.proofs.Common.{◌≡◌, ℕ, suc, Bool, true, false, cond, List, [], ◌∷◌, ◌++◌, Some, Ok, Err, Result, refl, ap, ◌∙◌}
 use Rattle.fields.specs.declared.faults.FieldFault.{FieldFault}
 use Rattle.fields.specs.declared.faults.FieldFault.TheVariants.{Bytes, Spacing}
 use Rattle.fields.specs.Lines.{line_checked, all_printable, all_some, there}
@@ -13,7 +13,8 @@ use Rattle.grammar.specs.declared.faults.RoutineFault.{RoutineFault}
 use Rattle.grammar.specs.Grammar.{LinesReadBack, LinesReadAsWritten, word_of, line_fits}
 use Rattle.grammar.specs.Reads.{Draft, accept, onward, by_line, read_from}
 use Rattle.grammar.specs.Texts.{ended}
-use Rattle.grammar.proofs.Cutting.{pieces_front, printable-lacks}
+use Rattle.fields.proofs.Cuts.{pieces_front}
+use Rattle.grammar.proofs.Cutting.{printable-lacks}
 
 -- the n-th line fits, may stand here, and joins the draft
 pub record Step (n : ℕ) (d : Draft) (l : Line) (e : Draft) : Type 0 where
@@ -32,8 +33,8 @@ texts [] = [] ∷ []
 texts (l ∷ ls) = line_text l ∷ texts ls
 
 some_texts : (ls : List Line) → texts ls ≡ [] → ⊥
-some_texts [] e = let z : ◌≡◌ {A = ℕ} 0 1 = cc in omega arith
-some_texts (l ∷ ls) e = let z : ◌≡◌ {A = ℕ} 0 1 = cc in omega arith
+some_texts [] e = cc
+some_texts (l ∷ ls) e = cc
 
 join_front : (f : List ℕ) (ps : List (List ℕ)) → (ps ≡ [] → ⊥) → joined_by 10 (f ∷ ps) ≡ f ++ (10 ∷ joined_by 10 ps)
 join_front f [] ne = absurd (ne refl)
@@ -45,7 +46,7 @@ joined_texts (l ∷ ls) = join_front (line_text l) (texts ls) (some_texts ls) �
 
 pub cond_ok : {A E : Type 0} (b : Bool) (x : Result A E) (e : E) (a : A) → cond b x (Err e) ≡ Ok a → (b ≡ true) × (x ≡ Ok a)
 cond_ok true x e a h = (refl, h)
-cond_ok false x e a h = absurd (let z : ◌≡◌ {A = ℕ} 0 1 = cc in omega arith)
+cond_ok false x e a h = cc
 
 checked_lacks : (bs : List ℕ) (n : ℕ) → line_checked bs n ≡ Ok tt → lacks 10 bs ≡ true
 checked_lacks bs n e = printable-lacks bs (cond_ok (all_printable bs) (cond (all_some (pieces 32 bs)) (Ok tt) (Err (Spacing n))) (Bytes n) tt e).0
@@ -62,7 +63,7 @@ pub record Only (ps : List (List ℕ)) (n : ℕ) (d f : Draft) : Type 0 where
 
 only_last : (p : List ℕ) (n : ℕ) (d f : Draft) → read_from n d (p ∷ []) ≡ Ok f → Only (p ∷ []) n d f
 only_last [] n d f e = record { lines = []; cut = refl; taken = cc }
-only_last (c ∷ cs) n d f e = absurd (let z : ◌≡◌ {A = ℕ} 0 1 = cc in omega arith)
+only_last (c ∷ cs) n d f e = cc
 
 module _ (back : LinesReadBack) (only : LinesReadAsWritten) where
   pub cut_lines : (ls : List Line) (n : ℕ) (d f : Draft) → Taken n d ls f → pieces 10 (ended ls) ≡ texts ls
@@ -82,17 +83,17 @@ module _ (back : LinesReadBack) (only : LinesReadAsWritten) where
       let o = only d.stage p n l s in
       let q = rest e h in
       record { lines = l ∷ q.lines; cut = (λ i. o.0 i ∷ q.cut i); taken = (e, (record { fits = o.1.0; stands = o.1.1; joins = j }, q.taken)) }
-  only_joined (Err x) l p ps n d f j s rest h = absurd (let z : ◌≡◌ {A = ℕ} 0 1 = cc in omega arith)
+  only_joined (Err x) l p ps n d f j s rest h = cc
 
   only_said : (s : Said) (p : List ℕ) (ps : List (List ℕ)) (n : ℕ) (d f : Draft) → fields_say d.stage (pieces 32 p) n ≡ s → ((e : Draft) → read_from (suc n) e ps ≡ Ok f → Only ps (suc n) e f) → by_line (found s) (Ok d) (λ l. onward (accept l n d) (λ e. read_from (suc n) e ps)) ≡ Ok f → Only (p ∷ ps) n d f
   only_said (Ok l) p ps n d f s rest h = only_joined (accept l n d) l p ps n d f refl s rest h
-  only_said (Err x) p ps n d f s rest h = absurd (let z : ◌≡◌ {A = ℕ} 0 1 = cc in omega arith)
+  only_said (Err x) p ps n d f s rest h = cc
 
   only_checked : (c : Result (Unit {0}) FieldFault) (p : List ℕ) (ps : List (List ℕ)) (n : ℕ) (d f : Draft) → ((e : Draft) → read_from (suc n) e ps ≡ Ok f → Only ps (suc n) e f) → by_line (by_answer (there c) (fields_say d.stage (pieces 32 p) n)) (Ok d) (λ l. onward (accept l n d) (λ e. read_from (suc n) e ps)) ≡ Ok f → Only (p ∷ ps) n d f
   only_checked (Ok u) p ps n d f rest h = only_said (fields_say d.stage (pieces 32 p) n) p ps n d f refl rest h
-  only_checked (Err x) p ps n d f rest h = absurd (let z : ◌≡◌ {A = ℕ} 0 1 = cc in omega arith)
+  only_checked (Err x) p ps n d f rest h = cc
 
   pub read_only : (ps : List (List ℕ)) (n : ℕ) (d f : Draft) → (ps ≡ [] → ⊥) → read_from n d ps ≡ Ok f → Only ps n d f
   read_only [] n d f ne h = absurd (ne refl)
   read_only (p ∷ []) n d f ne h = only_last p n d f h
-  read_only (p ∷ (q ∷ qs)) n d f ne h = only_checked (line_checked p n) p (q ∷ qs) n d f (λ e k. read_only (q ∷ qs) (suc n) e f (λ z. let o : ◌≡◌ {A = ℕ} 0 1 = cc in omega arith) k) h
+  read_only (p ∷ (q ∷ qs)) n d f ne h = only_checked (line_checked p n) p (q ∷ qs) n d f (λ e k. read_only (q ∷ qs) (suc n) e f (λ z. cc) k) h

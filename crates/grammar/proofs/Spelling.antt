@@ -14,7 +14,7 @@ use Rattle.instructions.specs.declared.types.Line.TheVariants as line
 use Rattle.instructions.specs.declared.types.Operand.{Operand}
 use Rattle.instructions.specs.declared.types.Operand.TheVariants as operand
 use Rattle.grammar.specs.Grammar.{SpellsNumber, SpellsOperand, register, constant, SpellsInstruction, load, store, exchange, fence, nop, set, add, jump_nonzero, jump, SpellsFields, init, party, end, instruction, SpellsLines, none, more, line_fits}
-use Rattle.grammar.specs.Listings.{Listing, operand_fits, instruction_fits, init_fits, code_fits, inits_fit, parties_fit}
+use Rattle.grammar.specs.Listings.{Listing, operand_fits, instruction_fits, code_fits, inits_fit, parties_fit}
 use Rattle.grammar.specs.Texts.{code_lines, party_lines, init_lines, lines_of, ended}
 use Rattle.grammar.proofs.Drafts.{Limits}
 
@@ -36,7 +36,7 @@ operand_is (constant p) h = number_is 4294967295 (omega arith) h p
 instruction_is : {fs : List (List ℕ)} {i : Instruction} → SpellsInstruction fs i → instruction_fits i ≡ true → fs ≡ instruction_fields i
 instruction_is (load r p) h = ap (λ d. spelled keyword.Load ∷ (register_text r ∷ (d ∷ []))) (number_is 65535 (omega arith) h p)
 instruction_is (store {ds} {f} {a} {s} p q) h =
-    let b = and_parts (leb a 65535) (operand_fits s) h in
+    let b = and_parts _ _ h in
     ap (λ d. spelled keyword.Store ∷ (d ∷ (f ∷ []))) (number_is 65535 (omega arith) b.0 p) ∙ ap (λ f. spelled keyword.Store ∷ (decimal a ∷ (f ∷ []))) (operand_is q b.1)
 instruction_is (exchange r p) h = ap (λ d. spelled keyword.Exchange ∷ (register_text r ∷ (d ∷ []))) (number_is 65535 (omega arith) h p)
 instruction_is fence h = refl
@@ -48,7 +48,7 @@ instruction_is (jump p) h = ap (λ d. spelled keyword.Jump ∷ (d ∷ [])) (numb
 
 fields_are : {fs : List (List ℕ)} {l : Line} → SpellsFields fs l → line_fits l ≡ true → fs ≡ line_fields l
 fields_are (init {ds} {es} {i} p q) h =
-    let b = and_parts (leb i.address 65535) (leb i.value 4294967295) h in
+    let b = and_parts _ _ h in
     ap (λ d. spelled keyword.Init ∷ (d ∷ (es ∷ []))) (number_is 65535 (omega arith) b.0 p) ∙ ap (λ e. spelled keyword.Init ∷ (decimal i.address ∷ (e ∷ []))) (number_is 4294967295 (omega arith) b.1 q)
 fields_are party h = refl
 fields_are end h = refl
@@ -58,7 +58,7 @@ fields_are (instruction p) h = instruction_is p h
 pub lines_are : {bs : List ℕ} {ls : List Line} → SpellsLines bs ls → lines_fit ls ≡ true → bs ≡ ended ls
 lines_are none h = refl
 lines_are (more {fs} {l} {bs} {ls} p q) h =
-    let b = and_parts (line_fits l) (lines_fit ls) h in
+    let b = and_parts _ _ h in
     ap (λ fs. joined_by 32 fs ++ (10 ∷ bs)) (fields_are p b.0) ∙ ap (λ bs. line_text l ++ (10 ∷ bs)) (lines_are q b.1)
 
 operand_spelled : (s : Operand) → operand_fits s ≡ true → SpellsOperand (operand_text s) s
@@ -67,7 +67,7 @@ operand_spelled (operand.Constant n) h = constant (number_spelled 4294967295 n (
 
 instruction_spelled : (i : Instruction) → instruction_fits i ≡ true → SpellsInstruction (instruction_fields i) i
 instruction_spelled (Load r a) h = load r (number_spelled 65535 a (omega arith) h)
-instruction_spelled (Store a s) h = let b = and_parts (leb a 65535) (operand_fits s) h in store (number_spelled 65535 a (omega arith) b.0) (operand_spelled s b.1)
+instruction_spelled (Store a s) h = let b = and_parts _ _ h in store (number_spelled 65535 a (omega arith) b.0) (operand_spelled s b.1)
 instruction_spelled (Exchange r a) h = exchange r (number_spelled 65535 a (omega arith) h)
 instruction_spelled Fence h = fence
 instruction_spelled Nop h = nop
@@ -77,7 +77,7 @@ instruction_spelled (JumpNonzero r t) h = jump_nonzero r (number_spelled 32 t (o
 instruction_spelled (Jump t) h = jump (number_spelled 32 t (omega arith) h)
 
 fields_spelled : (l : Line) → line_fits l ≡ true → SpellsFields (line_fields l) l
-fields_spelled (line.Init i) h = let b = and_parts (leb i.address 65535) (leb i.value 4294967295) h in init (number_spelled 65535 i.address (omega arith) b.0) (number_spelled 4294967295 i.value (omega arith) b.1)
+fields_spelled (line.Init i) h = let b = and_parts _ _ h in init (number_spelled 65535 i.address (omega arith) b.0) (number_spelled 4294967295 i.value (omega arith) b.1)
 fields_spelled line.Party h = party
 fields_spelled line.End h = end
 fields_spelled (line.Instruction i) h = instruction (instruction_spelled i h)
@@ -85,19 +85,19 @@ fields_spelled (line.Instruction i) h = instruction (instruction_spelled i h)
 -- what is written of lines spells them
 pub lines_spelled : (ls : List Line) → lines_fit ls ≡ true → SpellsLines (ended ls) ls
 lines_spelled [] h = none
-lines_spelled (l ∷ ls) h = let b = and_parts (line_fits l) (lines_fit ls) h in more (fields_spelled l b.0) (lines_spelled ls b.1)
+lines_spelled (l ∷ ls) h = let b = and_parts _ _ h in more (fields_spelled l b.0) (lines_spelled ls b.1)
 
 code_lines_fit : (is : List Instruction) (after : List Line) → code_fits is ≡ true → lines_fit after ≡ true → lines_fit (code_lines is after) ≡ true
 code_lines_fit [] after h k = k
-code_lines_fit (i ∷ is) after h k = let b = and_parts (instruction_fits i) (code_fits is) h in and_from (instruction_fits i) (lines_fit (code_lines is after)) b.0 (code_lines_fit is after b.1 k)
+code_lines_fit (i ∷ is) after h k = let b = and_parts _ _ h in and_from _ _ b.0 (code_lines_fit is after b.1 k)
 
 party_lines_fit : (ps : List (List Instruction)) → parties_fit ps ≡ true → lines_fit (party_lines ps) ≡ true
 party_lines_fit [] h = refl
-party_lines_fit (p ∷ ps) h = let b = and_parts (code_fits p) (parties_fit ps) h in code_lines_fit p (party_lines ps) b.0 (party_lines_fit ps b.1)
+party_lines_fit (p ∷ ps) h = let b = and_parts _ _ h in code_lines_fit p (party_lines ps) b.0 (party_lines_fit ps b.1)
 
 init_lines_fit : (is : List Init) (after : List Line) → inits_fit is ≡ true → lines_fit after ≡ true → lines_fit (init_lines is after) ≡ true
 init_lines_fit [] after h k = k
-init_lines_fit (i ∷ is) after h k = let b = and_parts (init_fits i) (inits_fit is) h in and_from (init_fits i) (lines_fit (init_lines is after)) b.0 (init_lines_fit is after b.1 k)
+init_lines_fit (i ∷ is) after h k = let b = and_parts _ _ h in and_from _ _ b.0 (init_lines_fit is after b.1 k)
 
 pub lines_of_fit : (l : Listing) → Limits l → lines_fit (lines_of l) ≡ true
 lines_of_fit l k = init_lines_fit l.inits (party_lines l.parties) k.inits_are_fit (party_lines_fit l.parties k.parties_are_fit)

@@ -1,5 +1,5 @@
 -- Lines that are taken in turn, with no party open at the end, are those of a routine within its limits.
-use Rattle.std.proofs.Common.{◌≡◌, ℕ, suc, ◌<◌, ◌≤◌, true, cond, ◌&&◌, ltb, leb, List, [], ◌∷◌, ◌++◌, length, Ok, Err, Result, sym, refl, ap, ◌∙◌, subst, append_assoc, append-nil, arith, length-append}
+use Rattle.std.proofs.Common.{◌≡◌, ℕ, suc, ◌<◌, ◌≤◌, true, cond, ltb, List, [], ◌∷◌, ◌++◌, length, Ok, Err, sym, refl, ap, ◌∙◌, subst, append_assoc, append-nil, arith, length-append}
 use Rattle.std.proofs.lemmas.Bool.{and_from, le-leb, ltb-true, both_ways}
 use Rattle.instructions.specs.declared.types.Init.{Init}
 use Rattle.instructions.specs.declared.types.Instruction.{Instruction}
@@ -7,16 +7,12 @@ use Rattle.instructions.specs.declared.types.Line.{Line}
 use Rattle.instructions.specs.declared.types.Line.TheVariants as line
 use Rattle.instructions.specs.declared.types.Stage.{Stage}
 use Rattle.instructions.specs.declared.types.Stage.TheVariants.{Before, Inside, Between}
-use Rattle.grammar.specs.declared.faults.RoutineFault.{RoutineFault}
 use Rattle.grammar.specs.declared.faults.RoutineFault.TheVariants as fault
 use Rattle.grammar.specs.Listings.{rising, party_lawful, parties_lawful, targets_within, instruction_fits, code_fits, parties_fit, init_fits, inits_fit}
 use Rattle.grammar.specs.Reads.{Draft, outside, accept, above}
 use Rattle.grammar.specs.Texts.{code_lines, party_lines, init_lines}
 use Rattle.grammar.proofs.LineLists.{Taken, cond_ok}
-use Rattle.grammar.proofs.Drafts.{draft, before_not, between_not, rising_snoc}
-
-ok_same : (a b : Draft) → ◌≡◌ {A = Result Draft RoutineFault} (Ok a) (Ok b) → a ≡ b
-ok_same a b e = cc
+use Rattle.grammar.proofs.Drafts.{draft, instruction_stands, rising_snoc}
 
 -- what each line asked, and the draft that it leaves
 module _ (n : ℕ) (is : List Init) (ps : List (List Instruction)) (c : List Instruction) (s : Stage) (e : Draft) where
@@ -24,23 +20,23 @@ module _ (n : ℕ) (is : List Init) (ps : List (List Instruction)) (c : List Ins
   init_joins_lem i h =
       let p = cond_ok (above i.address is) (cond (ltb (length is) 16) (Ok (draft (is ++ (i ∷ [])) ps c s)) (Err (fault.Room n))) (fault.Order n) e h in
       let q = cond_ok (ltb (length is) 16) (Ok (draft (is ++ (i ∷ [])) ps c s)) (fault.Room n) e p.1 in
-      (p.0, (ltb-true _ _ q.0, ok_same _ e q.1))
+      (p.0, (ltb-true _ _ q.0, cc q.1))
 
   party_joins : accept line.Party n (draft is ps c s) ≡ Ok e → (length ps < 4) × (draft is ps [] Inside ≡ e)
   party_joins h =
       let p = cond_ok (ltb (length ps) 4) (Ok (draft is ps [] Inside)) (fault.Room n) e h in
-      (ltb-true _ _ p.0, ok_same _ e p.1)
+      (ltb-true _ _ p.0, cc p.1)
 
   instruction_joins : (i : Instruction) → accept (line.Instruction i) n (draft is ps c s) ≡ Ok e → (length c < 32) × (draft is ps (c ++ (i ∷ [])) s ≡ e)
   instruction_joins i h =
       let p = cond_ok (ltb (length c) 32) (Ok (draft is ps (c ++ (i ∷ [])) s)) (fault.Room n) e h in
-      (ltb-true _ _ p.0, ok_same _ e p.1)
+      (ltb-true _ _ p.0, cc p.1)
 
   end_joins : accept line.End n (draft is ps c s) ≡ Ok e → (ltb 0 (length c) ≡ true) × ((targets_within (length c) c ≡ true) × (draft is (ps ++ (c ∷ [])) [] Between ≡ e))
   end_joins h =
       let p = cond_ok (ltb 0 (length c)) (cond (targets_within (length c) c) (Ok (draft is (ps ++ (c ∷ [])) [] Between)) (Err (fault.Target n))) (fault.Empty n) e h in
       let q = cond_ok (targets_within (length c) c) (Ok (draft is (ps ++ (c ∷ [])) [] Between)) (fault.Target n) e p.1 in
-      (p.0, (q.0, ok_same _ e q.1))
+      (p.0, (q.0, cc q.1))
 
 -- what is still to come between parties
 record FromBetween (is : List Init) (ps : List (List Instruction)) (ls : List Line) (f : Draft) : Type 0 where
@@ -108,7 +104,7 @@ module _ (is : List Init) (ps : List (List Instruction)) (ls : List Line) (f : D
     parties = q.parties;
     order = q.order;
     count = q.count;
-    inits_are_fit = and_from (init_fits i) (inits_fit q.more) h q.inits_are_fit;
+    inits_are_fit = and_from _ _ h q.inits_are_fit;
     law = q.law;
     fit = q.fit;
     most = q.most;
@@ -124,8 +120,8 @@ module _ (is : List Init) (ps : List (List Instruction)) (ls : List Line) (f : D
     order = ap rising q.inits ∙ r;
     count = subst (λ x. length x ≤ 16) (sym q.inits) k;
     inits_are_fit = refl;
-    law = and_from (party_lawful q.code) (parties_lawful q.rest) q.party q.law;
-    fit = and_from (code_fits q.code) (parties_fit q.rest) q.code_is_fit q.fit;
+    law = and_from _ _ q.party q.law;
+    fit = and_from _ _ q.code_is_fit q.fit;
     most = q.most;
   }
 
@@ -135,8 +131,8 @@ module _ (is : List Init) (ps : List (List Instruction)) (ls : List Line) (f : D
     lines = ap (λ ls. line.Party ∷ ls) q.lines;
     inits = q.inits;
     parties = q.parties;
-    law = and_from (party_lawful q.code) (parties_lawful q.rest) q.party q.law;
-    fit = and_from (code_fits q.code) (parties_fit q.rest) q.code_is_fit q.fit;
+    law = and_from _ _ q.party q.law;
+    fit = and_from _ _ q.code_is_fit q.fit;
     most = q.most;
   }
 
@@ -150,7 +146,7 @@ module _ (is : List Init) (ps : List (List Instruction)) (ls : List Line) (f : D
         inits = q.inits;
         parties = q.parties ∙ ap (λ x. ps ++ (x ∷ q.rest)) e;
         party = subst (λ x. party_lawful x ≡ true) e q.party;
-        code_is_fit = and_from (instruction_fits i) (code_fits q.code) h q.code_is_fit;
+        code_is_fit = and_from _ _ h q.code_is_fit;
         law = q.law;
         fit = q.fit;
         most = q.most;
@@ -186,15 +182,15 @@ ahead (line.Party ∷ ls) Inside n is ps c f r k room (e, (s, t)) o = absurd (bo
 ahead (line.Party ∷ ls) Between n is ps c f r k room (e, (s, t)) o =
     let j = party_joins n is ps c Between e s.joins in
     between_party is ps ls f (ahead ls Inside (suc n) is ps [] f r k (j.0, omega arith) (subst (λ e. Taken (suc n) e ls f) (sym j.1) t) o)
-ahead (line.Instruction i ∷ ls) Before n is ps c f r k room (e, (s, t)) o = absurd (both_ways _ (before_not i) s.stands)
+ahead (line.Instruction i ∷ ls) Before n is ps c f r k room (e, (s, t)) o = absurd (both_ways _ (instruction_stands Before i) s.stands)
 ahead (line.Instruction i ∷ ls) Inside n is ps c f r k room (e, (s, t)) o =
     let j = instruction_joins n is ps c Inside e i s.joins in
     inside_instruction is ps ls f c i s.fits (ahead ls Inside (suc n) is ps (c ++ (i ∷ [])) f r k (room.0, omega (arith, length-append c (i ∷ []))) (subst (λ e. Taken (suc n) e ls f) (sym j.1) t) o)
-ahead (line.Instruction i ∷ ls) Between n is ps c f r k room (e, (s, t)) o = absurd (both_ways _ (between_not i) s.stands)
+ahead (line.Instruction i ∷ ls) Between n is ps c f r k room (e, (s, t)) o = absurd (both_ways _ (instruction_stands Between i) s.stands)
 ahead (line.End ∷ ls) Before n is ps c f r k room (e, (s, t)) o = absurd (both_ways _ refl s.stands)
 ahead (line.End ∷ ls) Inside n is ps c f r k room (e, (s, t)) o =
     let j = end_joins n is ps c Inside e s.joins in
-    let law : party_lawful c ≡ true = and_from (ltb 0 (length c)) (leb (length c) 32 && targets_within (length c) c) j.0 (and_from (leb (length c) 32) (targets_within (length c) c) (le-leb (length c) 32 room.1) j.1.0) in
+    let law : party_lawful c ≡ true = and_from _ _ j.0 (and_from _ _ (le-leb (length c) 32 room.1) j.1.0) in
     inside_end is ps ls f c law (ahead ls Between (suc n) is (ps ++ (c ∷ [])) [] f r k (omega (arith, length-append ps (c ∷ []), room.0)) (subst (λ e. Taken (suc n) e ls f) (sym j.1.1) t) o)
 ahead (line.End ∷ ls) Between n is ps c f r k room (e, (s, t)) o = absurd (both_ways _ refl s.stands)
 

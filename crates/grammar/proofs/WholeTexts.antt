@@ -10,7 +10,7 @@ use Rattle.grammar.specs.Listings.{Listing, fewest_parties, addresses_of, lawful
 use Rattle.grammar.specs.Reads.{Draft, blank, read_from, read_of, onward, outside, listed, finished}
 use Rattle.grammar.specs.Texts.{ended, init_lines, party_lines, lines_of, text_of}
 use Rattle.fields.proofs.Answered.{pieces-some}
-use Rattle.grammar.proofs.Cutting.{joined-pieces}
+use Rattle.std.proofs.lemmas.List.Splits.{join_with_byte-slice_split}
 use Rattle.grammar.proofs.LineLists.{cond_ok, joined_texts, cut_lines, read_taken, read_only}
 use Rattle.grammar.proofs.Drafts.{Limits, limits, within_limits}
 use Rattle.grammar.proofs.LawfulTaken.{Reaches, lawful-taken}
@@ -29,7 +29,7 @@ finished_parts : (f : Draft) (l : Listing) → finished f ≡ Ok l → Finished 
 finished_parts f l h =
     let p = cond_ok (outside f.stage && leb fewest_parties (length f.parties)) (cond (leb (length (addresses_of (listed f))) 32) (Ok (listed f)) (Err fault.Addresses)) fault.Unfinished l h in
     let q = cond_ok (leb (length (addresses_of (listed f))) 32) (Ok (listed f)) fault.Addresses l p.1 in
-    let a = and_parts (outside f.stage) (leb fewest_parties (length f.parties)) p.0 in
+    let a = and_parts _ _ p.0 in
     let e = q.1 in
     record { closed = a.0; fewest = a.1; addresses = q.0; is = cc }
 
@@ -64,8 +64,8 @@ module _ (back : LinesReadBack) (only : LinesReadAsWritten) where
       let k = finished_parts f l h in
       let q = read_only back only (pieces 10 bs) 1 blank f (pieces-some 10 bs) e in
       let p = listed-lawful q.lines f l (taken-lawful q.lines f q.taken k.closed) k in
-      (sym (joined-pieces 10 bs) ∙ ap (joined_by 10) q.cut ∙ joined_texts q.lines ∙ p.0, p.1)
-  read_back bs l (Err x) e h = absurd (let z : ◌≡◌ {A = ℕ} 0 1 = cc in omega arith)
+      (sym (join_with_byte-slice_split 10 bs) ∙ ap (joined_by 10) q.cut ∙ joined_texts q.lines ∙ p.0, p.1)
+  read_back bs l (Err x) e h = cc
 
   pub read_is_written : ReadIsWritten
   read_is_written bs l e =

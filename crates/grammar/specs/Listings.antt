@@ -1,8 +1,9 @@
 -- What a routine says, and the limits that it keeps.
-use Rattle.std.specs.Prelude.{ℕ, Bool, true, cond, ◌&&◌, List, [], ◌∷◌, length, ◌==◌, nat_le, nat_lt, slice_index_or}
+use Rattle.std.specs.Prelude.{ℕ, Bool, true, if◌then◌else◌, ◌&&◌, List, [], ◌∷◌, length, ◌==◌, nat_le, nat_lt, slice_index_or, fold}
+use Rattle.std.specs.List.{list_all}
 use Rattle.instructions.specs.declared.types.Init.{Init}
 use Rattle.instructions.specs.declared.types.Instruction.{Instruction}
-use Rattle.instructions.specs.declared.types.Instruction.TheVariants.{Load, Store, Exchange, Fence, Nop, Set, Add, JumpNonzero, Jump}
+use Rattle.instructions.specs.declared.types.Instruction.TheVariants.{Load, Store, Exchange, Set, Add, JumpNonzero, Jump}
 use Rattle.instructions.specs.declared.types.Operand.{Operand}
 use Rattle.instructions.specs.declared.types.Operand.TheVariants as operand
 
@@ -27,27 +28,19 @@ rising (i ∷ (j ∷ is)) = nat_lt i.address j.address && rising (j ∷ is)
 
 -- no jump goes past that end
 abbrev pub target_within : ℕ → Instruction → Bool
-target_within end (Load r a) = true
-target_within end (Store a s) = true
-target_within end (Exchange r a) = true
-target_within end Fence = true
-target_within end Nop = true
-target_within end (Set r s) = true
-target_within end (Add r s) = true
 target_within end (JumpNonzero r t) = nat_le t end
 target_within end (Jump t) = nat_le t end
+target_within end _ = true
 
 abbrev pub targets_within : ℕ → List Instruction → Bool
-targets_within end [] = true
-targets_within end (i ∷ is) = target_within end i && targets_within end is
+targets_within end is = list_all (target_within end) is
 
 -- a party has 1 to 32 instructions, and no jump past its end
 abbrev pub party_lawful : List Instruction → Bool
 party_lawful is = nat_lt 0 (length is) && (nat_le (length is) 32 && targets_within (length is) is)
 
 abbrev pub parties_lawful : List (List Instruction) → Bool
-parties_lawful [] = true
-parties_lawful (p ∷ ps) = party_lawful p && parties_lawful ps
+parties_lawful ps = list_all party_lawful ps
 
 -- the ranges of the numbers: an address is at most 65,535, a word at most 2^32 - 1
 abbrev pub operand_fits : Operand → Bool
@@ -58,60 +51,47 @@ abbrev pub instruction_fits : Instruction → Bool
 instruction_fits (Load r a) = nat_le a 65535
 instruction_fits (Store a s) = nat_le a 65535 && operand_fits s
 instruction_fits (Exchange r a) = nat_le a 65535
-instruction_fits Fence = true
-instruction_fits Nop = true
 instruction_fits (Set r s) = operand_fits s
 instruction_fits (Add r s) = operand_fits s
 instruction_fits (JumpNonzero r t) = nat_le t 32
 instruction_fits (Jump t) = nat_le t 32
+instruction_fits _ = true
 
 abbrev pub init_fits : Init → Bool
 init_fits i = nat_le i.address 65535 && nat_le i.value 4294967295
 
 abbrev pub code_fits : List Instruction → Bool
-code_fits [] = true
-code_fits (i ∷ is) = instruction_fits i && code_fits is
+code_fits is = list_all instruction_fits is
 
 abbrev pub inits_fit : List Init → Bool
-inits_fit [] = true
-inits_fit (i ∷ is) = init_fits i && inits_fit is
+inits_fit is = list_all init_fits is
 
 abbrev pub parties_fit : List (List Instruction) → Bool
-parties_fit [] = true
-parties_fit (p ∷ ps) = code_fits p && parties_fit ps
+parties_fit ps = list_all code_fits ps
 
 -- the addresses that are named, in the order of the text
 abbrev pub address_in : Instruction → List ℕ
 address_in (Load r a) = a ∷ []
 address_in (Store a s) = a ∷ []
 address_in (Exchange r a) = a ∷ []
-address_in Fence = []
-address_in Nop = []
-address_in (Set r s) = []
-address_in (Add r s) = []
-address_in (JumpNonzero r t) = []
-address_in (Jump t) = []
+address_in _ = []
 
 -- an address put into its place among rising ones, once
 abbrev pub noted : ℕ → List ℕ → List ℕ
 noted a [] = a ∷ []
-noted a (b ∷ bs) = cond (nat_lt a b) (a ∷ (b ∷ bs)) (cond (a == b) (b ∷ bs) (b ∷ noted a bs))
+noted a (b ∷ bs) = if nat_lt a b then a ∷ (b ∷ bs) else if a == b then b ∷ bs else b ∷ noted a bs
 
 abbrev pub noted_inits : List Init → List ℕ → List ℕ
-noted_inits [] seen = seen
-noted_inits (i ∷ is) seen = noted_inits is (noted i.address seen)
+noted_inits is seen = fold (λ seen i. noted i.address seen) seen is
 
 abbrev pub noted_in : List ℕ → List ℕ → List ℕ
-noted_in [] seen = seen
-noted_in (a ∷ more) seen = noted_in more (noted a seen)
+noted_in more seen = fold (λ seen a. noted a seen) seen more
 
 abbrev pub noted_code : List Instruction → List ℕ → List ℕ
-noted_code [] seen = seen
-noted_code (i ∷ is) seen = noted_code is (noted_in (address_in i) seen)
+noted_code is seen = fold (λ seen i. noted_in (address_in i) seen) seen is
 
 abbrev pub noted_parties : List (List Instruction) → List ℕ → List ℕ
-noted_parties [] seen = seen
-noted_parties (p ∷ ps) seen = noted_parties ps (noted_code p seen)
+noted_parties ps seen = fold (λ seen p. noted_code p seen) seen ps
 
 -- the different addresses of a routine, rising
 abbrev pub addresses_of : Listing → List ℕ

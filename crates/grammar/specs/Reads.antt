@@ -1,5 +1,5 @@
 -- What reading a text gives: a routine, or the first fault.
-use Rattle.std.specs.Prelude.{ℕ, suc, Bool, true, false, cond, ◌&&◌, List, [], ◌∷◌, ◌++◌, length, Some, None, Ok, Err, Option, Result, nat_le, nat_lt}
+use Rattle.std.specs.Prelude.{ℕ, suc, Bool, true, false, if◌then◌else◌, ◌&&◌, List, [], ◌∷◌, ◌++◌, length, Some, None, Ok, Err, Option, Result, nat_le, nat_lt}
 use Rattle.fields.specs.Pieces.{pieces}
 use Rattle.instructions.specs.Lines.{line_read}
 use Rattle.instructions.specs.declared.faults.LineFault.{LineFault}
@@ -29,20 +29,26 @@ above a [] = true
 above a (i ∷ []) = nat_lt i.address a
 above a (i ∷ (j ∷ is)) = above a (j ∷ is)
 
+-- what follows where that holds, and the fault otherwise
+abbrev pub asked : {A : Type 0} → Bool → RoutineFault → Result A RoutineFault → Result A RoutineFault
+asked holds e r = if holds then r else Err e
+
 -- the n-th line joins what has been read
 abbrev pub accept : Line → ℕ → Draft → Result Draft RoutineFault
 accept (line.Init i) n d =
-    cond (above i.address d.inits)
-    (cond (nat_lt (length d.inits) 16) (Ok (record { inits = d.inits ++ (i ∷ []); parties = d.parties; current = d.current; stage = d.stage })) (Err (fault.Room n)))
-    (Err (fault.Order n))
+    asked (above i.address d.inits) (fault.Order n)
+    (asked (nat_lt (length d.inits) 16) (fault.Room n)
+    (Ok (record d { inits = d.inits ++ (i ∷ []) })))
 accept line.Party n d =
-    cond (nat_lt (length d.parties) 4) (Ok (record { inits = d.inits; parties = d.parties; current = []; stage = Inside })) (Err (fault.Room n))
+    asked (nat_lt (length d.parties) 4) (fault.Room n)
+    (Ok (record d { current = []; stage = Inside }))
 accept (line.Instruction i) n d =
-    cond (nat_lt (length d.current) 32) (Ok (record { inits = d.inits; parties = d.parties; current = d.current ++ (i ∷ []); stage = d.stage })) (Err (fault.Room n))
+    asked (nat_lt (length d.current) 32) (fault.Room n)
+    (Ok (record d { current = d.current ++ (i ∷ []) }))
 accept line.End n d =
-    cond (nat_lt 0 (length d.current))
-    (cond (targets_within (length d.current) d.current) (Ok (record { inits = d.inits; parties = d.parties ++ (d.current ∷ []); current = []; stage = Between })) (Err (fault.Target n)))
-    (Err (fault.Empty n))
+    asked (nat_lt 0 (length d.current)) (fault.Empty n)
+    (asked (targets_within (length d.current) d.current) (fault.Target n)
+    (Ok (record d { parties = d.parties ++ (d.current ∷ []); current = []; stage = Between })))
 
 abbrev pub onward : {A B : Type 0} → Result A RoutineFault → (A → Result B RoutineFault) → Result B RoutineFault
 onward (Ok x) f = f x
@@ -69,9 +75,11 @@ listed d = record { inits = d.inits; parties = d.parties }
 -- at the text's end: is there a party and none open, and are the different addresses at most 32
 abbrev pub finished : Draft → Result Listing RoutineFault
 finished d =
-    cond (outside d.stage && nat_le fewest_parties (length d.parties))
-    (cond (nat_le (length (addresses_of (listed d))) 32) (Ok (listed d)) (Err fault.Addresses))
-    (Err fault.Unfinished)
+    asked (outside d.stage && nat_le fewest_parties (length d.parties)) fault.Unfinished
+    (asked (nat_le (length (addresses_of (listed d))) 32) fault.Addresses
+    (Ok (listed d)))
 
 abbrev pub read_of : List ℕ → Result Listing RoutineFault
-read_of bs = cond (nat_le 1 (length bs) && nat_le (length bs) 8192) (onward (read_from 1 blank (pieces 10 bs)) finished) (Err fault.Length)
+read_of bs =
+    asked (nat_le 1 (length bs) && nat_le (length bs) 8192) fault.Length
+    (onward (read_from 1 blank (pieces 10 bs)) finished)

@@ -32,30 +32,30 @@ pub enum RoutineFault {
 impl From<LineFault> for RoutineFault {
     ghost from_gives = { λ e r. r ≡ RoutineFault.Line e };
 
-    fn from(e: LineFault) -> RoutineFault {
-        RoutineFault::Line(e)
+    fn from(fault: LineFault) -> RoutineFault {
+        RoutineFault::Line(fault)
     }
 }
 
 impl From<AllocError> for RoutineFault {
     ghost from_gives = { λ _ r. r ≡ RoutineFault.Memory };
 
-    fn from(_e: AllocError) -> RoutineFault {
+    fn from(_: AllocError) -> RoutineFault {
         RoutineFault::Memory
     }
 }
 
-impl RoutineFault {
-    pub fn code(&self) -> FaultCode
-        ensures { result ≡ routine_code self.now }
-    {
-        let (number, layer, line) = match self {
-            RoutineFault::Line(fault) => return fault.code(),
+impl From<RoutineFault> for FaultCode {
+    ghost from_gives = { λ e r. r ≡ routine_code e };
+
+    fn from(fault: RoutineFault) -> FaultCode {
+        let (number, layer, line) = match fault {
+            RoutineFault::Line(fault) => return FaultCode::from(fault),
             RoutineFault::Length => (1, 3, 0),
-            RoutineFault::Order { line } => (8, 3, *line),
-            RoutineFault::Room { line } => (9, 3, *line),
-            RoutineFault::Empty { line } => (10, 3, *line),
-            RoutineFault::Target { line } => (11, 3, *line),
+            RoutineFault::Order { line } => (8, 3, line),
+            RoutineFault::Room { line } => (9, 3, line),
+            RoutineFault::Empty { line } => (10, 3, line),
+            RoutineFault::Target { line } => (11, 3, line),
             RoutineFault::Unfinished => (12, 3, 0),
             RoutineFault::Addresses => (13, 3, 0),
             RoutineFault::Memory => (255, 0, 0),

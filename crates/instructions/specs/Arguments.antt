@@ -1,11 +1,11 @@
 -- The fields after a line's word: their count, then their kinds, then their ranges.
-use Rattle.std.specs.Prelude.{ℕ, Bool, true, false, cond, ◌&&◌, List, [], ◌∷◌, Some, None, Ok, Err, Option, Result}
+use Rattle.std.specs.Prelude.{ℕ, Bool, true, false, if◌then◌else◌, ◌&&◌, List, [], ◌∷◌, Some, None, Ok, Err, Option, Result}
 use Rattle.std.specs.Option.{option_map}
 use Rattle.fields.specs.declared.registers.Register.{Register}
 use Rattle.fields.specs.Numbers.{value_of, up_to}
 use Rattle.fields.specs.Tokens.{Seen, word, register, number, seen}
-use Rattle.instructions.specs.declared.arguments.Arguments.{Arguments}
-use Rattle.instructions.specs.declared.arguments.Arguments.TheVariants as arguments
+use Rattle.instructions.specs.declared.arguments.Fields.{Fields}
+use Rattle.instructions.specs.declared.arguments.Fields.TheVariants as fields
 use Rattle.instructions.specs.declared.faults.LineFault.{LineFault}
 use Rattle.instructions.specs.declared.faults.LineFault.TheVariants.{Count, Kind, Range}
 use Rattle.instructions.specs.declared.types.Operand.{Operand}
@@ -24,11 +24,11 @@ given_by (a ∷ []) = one a
 given_by (a ∷ (b ∷ [])) = two a b
 given_by (a ∷ (b ∷ (c ∷ cs))) = more
 
-abbrev pub given : Arguments → Given
-given arguments.Zero = zero
-given (arguments.One a) = one (seen a)
-given (arguments.Two a b) = two (seen a) (seen b)
-given arguments.More = more
+abbrev pub given : Fields → Given
+given fields.Zero = zero
+given (fields.One a) = one (seen a)
+given (fields.Two a b) = two (seen a) (seen b)
+given fields.More = more
 
 -- the kinds
 abbrev pub is_register : Seen → Bool
@@ -74,12 +74,15 @@ of_none more line = Err (Count line)
 
 abbrev pub of_one : {A : Type 0} → (Seen → Bool) → (Seen → Option A) → Given → ℕ → Result A LineFault
 of_one kind value zero line = Err (Count line)
-of_one kind value (one a) line = cond (kind a) (needed (value a) (Range line) (λ x. Ok x)) (Err (Kind line))
+of_one kind value (one a) line = if kind a then needed (value a) (Range line) (λ x. Ok x) else Err (Kind line)
 of_one kind value (two a b) line = Err (Count line)
 of_one kind value more line = Err (Count line)
 
 abbrev pub of_two : {A B : Type 0} → (Seen → Bool) → (Seen → Option A) → (Seen → Bool) → (Seen → Option B) → Given → ℕ → Result (A × B) LineFault
 of_two kind value kind' value' zero line = Err (Count line)
 of_two kind value kind' value' (one a) line = Err (Count line)
-of_two kind value kind' value' (two a b) line = cond (kind a && kind' b) (needed (value a) (Range line) (λ x. needed (value' b) (Range line) (λ y. Ok (x, y)))) (Err (Kind line))
+of_two kind value kind' value' (two a b) line =
+    if kind a && kind' b
+    then needed (value a) (Range line) (λ x. needed (value' b) (Range line) (λ y. Ok (x, y)))
+    else Err (Kind line)
 of_two kind value kind' value' more line = Err (Count line)

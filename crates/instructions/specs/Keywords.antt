@@ -1,7 +1,6 @@
 -- The words, how they are spelled, and where each may stand.
-use Rattle.std.specs.Prelude.{ℕ, Bool, true, false, cond, List, [], ◌∷◌, Some, None, codes, Option}
-use Rattle.std.specs.Str.{bytes_eq}
-use Rattle.fields.specs.Tokens.{Seen, word, register, number}
+use Rattle.std.specs.Prelude.{ℕ, Bool, true, false, not, List, [], ◌∷◌, codes, find, Option}
+use Rattle.fields.specs.Tokens.{Seen, is_word}
 use Rattle.instructions.specs.declared.keyword.Keyword.{Keyword}
 use Rattle.instructions.specs.declared.keyword.Keyword.TheVariants.{Init, Party, End, Load, Store, Exchange, Fence, Nop, Set, Add, JumpNonzero, Jump}
 use Rattle.instructions.specs.declared.types.Stage.{Stage}
@@ -24,55 +23,22 @@ spelled Jump = codes "JMP"
 abbrev pub every_keyword : List Keyword
 every_keyword = Init ∷ (Party ∷ (End ∷ (Load ∷ (Store ∷ (Exchange ∷ (Fence ∷ (Nop ∷ (Set ∷ (Add ∷ (JumpNonzero ∷ (Jump ∷ [])))))))))))
 
-abbrev pub keyword_in : List Keyword → List ℕ → Option Keyword
-keyword_in [] bs = None
-keyword_in (k ∷ ks) bs = cond (bytes_eq bs (spelled k)) (Some k) (keyword_in ks bs)
-
--- the keyword that the bytes spell
-abbrev pub keyword_of : List ℕ → Option Keyword
-keyword_of bs = keyword_in every_keyword bs
-
 -- the keyword that a field is
 abbrev pub keyword_seen : Seen → Option Keyword
-keyword_seen (word bs) = keyword_of bs
-keyword_seen (register r) = None
-keyword_seen (number ds) = None
+keyword_seen field = find (λ k. is_word field (spelled k)) every_keyword
+
+abbrev pub is_before : Stage → Bool
+is_before Before = true
+is_before Inside = false
+is_before Between = false
+
+abbrev pub is_inside : Stage → Bool
+is_inside Before = false
+is_inside Inside = true
+is_inside Between = false
 
 -- INIT lines stand before any party, PARTY outside of one, and all others inside
 abbrev pub may_stand : Stage → Keyword → Bool
-may_stand Before Init = true
-may_stand Inside Init = false
-may_stand Between Init = false
-may_stand Before Party = true
-may_stand Inside Party = false
-may_stand Between Party = true
-may_stand Before End = false
-may_stand Inside End = true
-may_stand Between End = false
-may_stand Before Load = false
-may_stand Inside Load = true
-may_stand Between Load = false
-may_stand Before Store = false
-may_stand Inside Store = true
-may_stand Between Store = false
-may_stand Before Exchange = false
-may_stand Inside Exchange = true
-may_stand Between Exchange = false
-may_stand Before Fence = false
-may_stand Inside Fence = true
-may_stand Between Fence = false
-may_stand Before Nop = false
-may_stand Inside Nop = true
-may_stand Between Nop = false
-may_stand Before Set = false
-may_stand Inside Set = true
-may_stand Between Set = false
-may_stand Before Add = false
-may_stand Inside Add = true
-may_stand Between Add = false
-may_stand Before JumpNonzero = false
-may_stand Inside JumpNonzero = true
-may_stand Between JumpNonzero = false
-may_stand Before Jump = false
-may_stand Inside Jump = true
-may_stand Between Jump = false
+may_stand stage Init = is_before stage
+may_stand stage Party = not (is_inside stage)
+may_stand stage _ = is_inside stage

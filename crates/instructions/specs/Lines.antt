@@ -1,5 +1,5 @@
 -- What a line says, from its fields.
-use Rattle.std.specs.Prelude.{◌≡◌, ℕ, suc, Bool, true, false, cond, List, [], ◌∷◌, map, drop, Some, None, Ok, Err, Option, Result}
+use Rattle.std.specs.Prelude.{◌≡◌, ℕ, suc, Bool, true, false, if◌then◌else◌, List, [], ◌∷◌, map, drop, Some, None, Ok, Err, Option, Result}
 use Rattle.fields.specs.declared.faults.FieldFault.{FieldFault}
 use Rattle.fields.specs.declared.reader.Reader.{Reader}
 use Rattle.fields.specs.Lines.{line_answer}
@@ -41,7 +41,7 @@ line_by keyword.Jump g n = said (λ t. line.Instruction (Jump t)) (of_one is_num
 
 abbrev pub here : Stage → Option Keyword → Option Keyword
 here stage None = None
-here stage (Some k) = cond (may_stand stage k) (Some k) None
+here stage (Some k) = if may_stand stage k then Some k else None
 
 -- the keyword that the first field is, where it may stand there
 abbrev pub keyword_here : Stage → Seen → Option Keyword
@@ -65,7 +65,7 @@ found (Ok l) = Ok (Some l)
 found (Err e) = Err e
 
 abbrev pub by_answer : Result Bool FieldFault → Said → Result (Option Line) LineFault
-by_answer (Ok b) s = cond b (found s) (Ok None)
+by_answer (Ok b) s = if b then found s else Ok None
 by_answer (Err e) s = Err (Field e)
 
 -- of the pieces between bytes 10 that are left, and the next line's number: what the next line says, or None at the end

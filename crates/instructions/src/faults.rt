@@ -22,21 +22,21 @@ pub enum LineFault {
 impl From<FieldFault> for LineFault {
     ghost from_gives = { λ e r. r ≡ LineFault.Field e };
 
-    fn from(e: FieldFault) -> LineFault {
-        LineFault::Field(e)
+    fn from(fault: FieldFault) -> LineFault {
+        LineFault::Field(fault)
     }
 }
 
-impl LineFault {
-    pub fn code(&self) -> FaultCode
-        ensures { result ≡ line_code self.now }
-    {
-        let (number, line) = match self {
-            LineFault::Field(fault) => return fault.code(),
-            LineFault::Word { line } => (4, *line),
-            LineFault::Count { line } => (5, *line),
-            LineFault::Kind { line } => (6, *line),
-            LineFault::Range { line } => (7, *line),
+impl From<LineFault> for FaultCode {
+    ghost from_gives = { λ e r. r ≡ line_code e };
+
+    fn from(fault: LineFault) -> FaultCode {
+        let (number, line) = match fault {
+            LineFault::Field(fault) => return FaultCode::from(fault),
+            LineFault::Word { line } => (4, line),
+            LineFault::Count { line } => (5, line),
+            LineFault::Kind { line } => (6, line),
+            LineFault::Range { line } => (7, line),
         };
         FaultCode {
             number,

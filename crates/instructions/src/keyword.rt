@@ -38,7 +38,7 @@ const KEYWORDS: [Keyword; 12] = [
 ];
 
 impl Keyword {
-    // The word, as it stands in a text.
+    // The word, as it stands in a text: bytes, as a field has.
     pub fn spelling(self) -> &'static [u8]
         ensures { result.now ≡ spelled self }
     {
@@ -58,16 +58,14 @@ impl Keyword {
         }
     }
 
-    // The keyword that a field is.
+    // The keyword that a field is; no TryFrom, which would be public as Keyword is.
     pub(crate) fn of(field: Token) -> Option<Keyword>
         ensures { result ≡ keyword_seen (seen field.entry) }
     {
-        for keyword in KEYWORDS {
-            if field.is_word(keyword.spelling()) {
-                return Some(keyword);
-            }
-        }
-        None
+        KEYWORDS
+            .iter()
+            .copied()
+            .find(|keyword| field.is_word(keyword.spelling()))
     }
 
     // Whether a line that begins with the word may stand there.
@@ -75,18 +73,9 @@ impl Keyword {
         ensures { result ≡ may_stand stage self }
     {
         match self {
-            Keyword::Init => match stage {
-                Stage::Before => true,
-                Stage::Inside | Stage::Between => false,
-            },
-            Keyword::Party => match stage {
-                Stage::Before | Stage::Between => true,
-                Stage::Inside => false,
-            },
-            _ => match stage {
-                Stage::Inside => true,
-                Stage::Before | Stage::Between => false,
-            },
+            Keyword::Init => stage == Stage::Before,
+            Keyword::Party => stage != Stage::Inside,
+            _ => stage == Stage::Inside,
         }
     }
 }

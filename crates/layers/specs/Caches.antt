@@ -1,10 +1,8 @@
 -- What a call makes of a cache and of the memory below it. Of that memory, C are the cells, R is its own read and W its own write.
-use Rattle.std.specs.Prelude.{◌≡◌, ℕ, IfErr, Some, None, Option, Result}
-use Rattle.memory.specs.Answers.{read_answer}
+use Rattle.std.specs.Prelude.{◌≡◌, ℕ, Some, None, Option}
 use Rattle.memory.specs.Cells.{Cells}
 use Rattle.memory.specs.Pairs.{cell}
 use Rattle.memory.specs.declared.cell.Cell.{Cell}
-use Rattle.memory.specs.declared.refusal.NotHeld.{NotHeld}
 use Rattle.layers.specs.Lines.{laid, line_of, lined, word_in}
 use Rattle.layers.specs.declared.cache.Cache.{Cache}
 
@@ -37,10 +35,3 @@ pub record CacheWritten {M : Type 0} (C : M → Cells) (R : M → ℕ → M → 
   pub hit : (u v : ℕ) → C c.below a ≡ Some u → word_in (line_of c.lines.slots a) a ≡ Some v → (d.below ≡ c.below) × (d.lines.slots ≡ lined c.lines.slots a w)
   pub miss : (u : ℕ) → C c.below a ≡ Some u → word_in (line_of c.lines.slots a) a ≡ None → Missed R W c a w d
   pub line : (v : ℕ) → cache_cells C c a ≡ Some v → line_of d.lines.slots a ≡ Some (cell a w)
-
--- what fetching a into its line answers, and what it makes of c
-pub record Fetched {M : Type 0} (C : M → Cells) (R : M → ℕ → M → Type 0) (W : M → ℕ → ℕ → M → Type 0) (c : Cache M) (a : ℕ) (r : Result ℕ NotHeld) (d : Cache M) : Type 0 where
-  pub answer : r ≡ read_answer (cache_cells C c a)
-  pub means : cache_cells C d ≡ cache_cells C c
-  pub itself : CacheRead C R W c a d
-  pub unchanged : IfErr r (λ _. d ≡ c)

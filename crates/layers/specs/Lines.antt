@@ -1,5 +1,5 @@
 -- Four lines, and the memory below with its lines laid over it.
-use Rattle.std.specs.Prelude.{◌≡◌, ℕ, ◌%◌, ◌<◌, cond, List, replicate, Some, None, Option, ◌==◌, slice_index_or, slice_set}
+use Rattle.std.specs.Prelude.{◌≡◌, ℕ, ◌%◌, ◌<◌, if◌then◌else◌, List, replicate, Some, None, Option, ◌==◌, slice_index_or, slice_set}
 use Rattle.memory.specs.Cells.{Cells, over}
 use Rattle.memory.specs.Pairs.{cell}
 use Rattle.memory.specs.declared.cell.Cell.{Cell}
@@ -17,7 +17,7 @@ line_of ls a = slice_index_or ls (a % 4) None
 -- the word that a line has for the address a
 abbrev pub word_in : Option Cell → ℕ → Option ℕ
 word_in None a = None
-word_in (Some l) a = cond (a == l.address) (Some l.word) None
+word_in (Some l) a = if a == l.address then Some l.word else None
 
 -- the lines after a took its line over, with the word w
 abbrev pub lined : Slots → ℕ → ℕ → Slots
@@ -26,7 +26,7 @@ lined ls a w = slice_set ls (a % 4) (Some (cell a w))
 -- what a line says of the address a, of which o is told below: it counts only where a is held below
 abbrev pub upon : Option Cell → ℕ → Option ℕ → Option ℕ
 upon None a o = o
-upon (Some l) a o = cond (a == l.address) (over o l.word) o
+upon (Some l) a o = if a == l.address then over o l.word else o
 
 -- the memory below with the lines laid over it
 abbrev pub laid : Cells → Slots → Cells

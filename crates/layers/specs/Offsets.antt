@@ -1,11 +1,11 @@
 -- A memory seen from a distance on.
-use Rattle.std.specs.Prelude.{◌≡◌, ℕ, ◌+◌, cond, None, MatchBool, nat_le}
+use Rattle.std.specs.Prelude.{◌≡◌, ℕ, ◌+◌, if◌then◌else◌, None, MatchBool, nat_le}
 use Rattle.memory.specs.Cells.{Cells}
 use Rattle.layers.specs.declared.offset.Offset.{Offset}
 
 -- the address a means a + d below, and nothing where that is no address
 abbrev pub shifted : Cells → ℕ → Cells
-shifted f d a = cond (nat_le (a + d) 65535) (f (a + d)) None
+shifted f d a = if nat_le (a + d) 65535 then f (a + d) else None
 
 -- What a call at a makes of m: its distance stays, and the memory below makes the same call at a + distance, or none.
 -- Call b k l says that the call at b makes l of the memory k.

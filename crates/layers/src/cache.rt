@@ -1,13 +1,13 @@
 // A cache of four lines of one word over any memory.
-ghost use Rattle.std.specs.Prelude.{◌≡◌};
-ghost use Rattle.layers.specs.Caches.{cache_cells};
-ghost use Rattle.layers.specs.Lines.{empty_lines};
+ghost use Rattle.std.specs.Prelude.{◌≡◌, None, OnErr, is_some};
+ghost use Rattle.memory.specs.Answers.{read_answer};
+ghost use Rattle.memory.specs.Cells.{put};
+ghost use Rattle.layers.specs.Caches.{CacheRead, CacheWritten, WrittenDown, cache_cells};
+ghost use Rattle.layers.specs.Lines.{empty_lines, line_of, lined, word_in};
 
 use crate::lines::Lines;
 use memory::memory::Memory;
-
-mod calls;
-mod fetch;
+use memory::refusal::NotHeld;
 
 #[derive(Drop)]
 pub struct Cache<M> {
@@ -19,17 +19,80 @@ impl<M: Memory> Cache<M> {
     // All lines are empty at first, so the cache means what the memory below means.
     pub fn new(below: M) -> Cache<M>
         ensures itself { (result.below ≡ below) × (result.lines.slots ≡ empty_lines) }
-        ensures means { cache_cells M.Memory.cells result ≡ M.Memory.cells below }
+        ensures means { cache_cells M.cells result ≡ M.cells below }
     {
-        let lines = Lines::new();
-        Cache { below, lines }
+        Cache {
+            below,
+            lines: Lines::new(),
+        }
     }
 
     // The memory below, as it stands: the lines are not written down.
     pub fn into_below(self) -> M
         ensures { result ≡ self.below }
     {
-        let Cache { below, lines: _ } = self;
+        let Cache { below, .. } = self;
         below
+    }
+
+    // Lets the address take its line over, which has another one or none: that is written down.
+    fn take_over(&mut self, address: u16, word: u32)
+        requires { word_in (line_of self.old.lines.slots address) address ≡ None }
+        ensures written { WrittenDown M.writes (line_of self.old.lines.slots address)
+            self.old.below self.new.below }
+        ensures line { self.new.lines.slots ≡ lined self.old.lines.slots address word }
+        ensures means { cache_cells M.cells self.new
+            ≡ put (cache_cells M.cells self.old) address word }
+    {
+        if let Some(line) = self.lines.replace(address, word) {
+            // A line whose address is not held below counts for nothing, so a refusal loses nothing.
+            let _ = self.below.write(line.address, line.word);
+        }
+    }
+
+    // Reads the address, which is not in its line, and puts it there.
+    fn load(&mut self, address: u16) -> Result<u32, NotHeld>
+        requires { word_in (line_of self.old.lines.slots address) address ≡ None }
+        ensures answer { result ≡ read_answer (cache_cells M.cells self.old address) }
+        ensures means { cache_cells M.cells self.new ≡ cache_cells M.cells self.old }
+        ensures itself { CacheRead M.cells M.reads M.writes self.old address self.new }
+        ensures unchanged { OnErr result (self.new ≡ self.old) }
+    {
+        let word = self.below.read(address)?;
+        self.take_over(address, word);
+        Ok(word)
+    }
+}
+
+impl<M: Memory> Memory for Cache<M> {
+    ghost cells = { λ c. cache_cells M.cells c };
+
+    ghost reads = { λ c a d. CacheRead M.cells M.reads M.writes c a d };
+
+    ghost writes = { λ c a w d. CacheWritten M.cells M.reads M.writes c a w d };
+
+    fn holds(&self, address: u16) -> bool
+        ensures held { result ≡ is_some (cache_cells M.cells self.now address) }
+        ensures below { result ≡ is_some (M.cells self.now.below address) }
+    {
+        self.below.holds(address)
+    }
+
+    // A line counts only where its address is held below, so that is asked first. The address is then in its line.
+    fn read(&mut self, address: u16) -> Result<u32, NotHeld> {
+        if !self.holds(address) {
+            return Err(NotHeld);
+        }
+        match self.lines.find(address) {
+            Some(word) => Ok(word),
+            None => self.load(address),
+        }
+    }
+
+    // Puts the word into the address's line, once the address is there.
+    fn write(&mut self, address: u16, word: u32) -> Result<(), NotHeld> {
+        self.read(address)?;
+        self.lines.replace(address, word);
+        Ok(())
     }
 }

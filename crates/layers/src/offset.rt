@@ -1,5 +1,5 @@
 // A memory that shows the one below from a distance on.
-ghost use Rattle.std.specs.Prelude.{◌≡◌, ◌+◌, ◌&&◌, is_some, nat_le};
+ghost use Rattle.std.specs.Prelude.{◌≡◌, ◌+◌, ◌≤◌, ◌↔◌, ◌&&◌, IfOk, IsOk, is_some, nat_le};
 ghost use Rattle.layers.specs.Offsets.{Through, shifted};
 
 use memory::memory::Memory;
@@ -23,39 +23,42 @@ impl<M: Memory> Offset<M> {
     pub fn into_below(self) -> M
         ensures { result ≡ self.below }
     {
-        let Offset { below, distance: _ } = self;
+        let Offset { below, .. } = self;
         below
+    }
+
+    // The address below that the address stands for.
+    fn place(&self, address: u16) -> Result<u16, NotHeld>
+        ensures held { IsOk result ↔ (address + self.now.distance ≤ 65535) }
+        ensures place { IfOk result (λ p. p ≡ address + self.now.distance) }
+    {
+        address.checked_add(self.distance).ok_or(NotHeld)
     }
 }
 
 impl<M: Memory> Memory for Offset<M> {
-    ghost cells = { λ m. shifted (M.Memory.cells m.below) m.distance };
+    ghost cells = { λ m. shifted (M.cells m.below) m.distance };
 
-    ghost reads = { λ m a n. Through (λ b k l. M.Memory.reads k b l) m a n };
+    ghost reads = { λ m a n. Through (λ b k l. M.reads k b l) m a n };
 
-    ghost writes = { λ m a w n. Through (λ b k l. M.Memory.writes k b w l) m a n };
+    ghost writes = { λ m a w n. Through (λ b k l. M.writes k b w l) m a n };
 
     fn holds(&self, address: u16) -> bool
-        ensures held { result ≡ is_some (shifted (M.Memory.cells self.now.below) self.now.distance address) }
-        ensures below { result ≡ (nat_le (address + self.now.distance) 65535 && is_some (M.Memory.cells self.now.below (address + self.now.distance))) }
+        ensures held { result ≡ is_some (shifted (M.cells self.now.below) self.now.distance address) }
+        ensures below { result ≡ (nat_le (address + self.now.distance) 65535
+            && is_some (M.cells self.now.below (address + self.now.distance))) }
     {
-        match address.checked_add(self.distance) {
-            Some(place) => self.below.holds(place),
-            None => false,
-        }
+        self.place(address)
+            .is_ok_and(|place| self.below.holds(place))
     }
 
     fn read(&mut self, address: u16) -> Result<u32, NotHeld> {
-        match address.checked_add(self.distance) {
-            Some(place) => self.below.read(place),
-            None => Err(NotHeld),
-        }
+        let place = self.place(address)?;
+        self.below.read(place)
     }
 
     fn write(&mut self, address: u16, word: u32) -> Result<(), NotHeld> {
-        match address.checked_add(self.distance) {
-            Some(place) => self.below.write(place, word),
-            None => Err(NotHeld),
-        }
+        let place = self.place(address)?;
+        self.below.write(place, word)
     }
 }

@@ -1,6 +1,7 @@
 -- A list of accesses on its way.
-use Rattle.std.proofs.Common.{◌≡◌, ℕ, ◌+◌, ◌<◌, ◌≤◌, Bool, true, false, ◌&&◌, List, [], ◌∷◌, ◌++◌, length, get_or, drop, Decides, MatchBool, sym, refl, ap, ◌∙◌, subst, append_assoc, arith}
+use Rattle.std.proofs.Common.{◌≡◌, ℕ, ◌+◌, ◌<◌, ◌≤◌, Bool, true, false, ◌&&◌, List, [], ◌∷◌, ◌++◌, length, get_or, drop, MatchBool, sym, refl, ap, ◌∙◌, subst, append_assoc}
 use Rattle.std.proofs.lemmas.List.{append-nil, drop_all, drop_more}
+use Rattle.std.specs.Prelude.{◌↔◌, IsTrue}
 use Rattle.memory.specs.Accesses.{Accessed, Alike, Performed, answer_of, answers_of, cells_after, cells_by}
 use Rattle.memory.specs.Cells.{Cells}
 use Rattle.memory.specs.declared.accesses.Access.{Access}
@@ -11,66 +12,55 @@ pub record Going {M : Type 0} (C : M → Cells) (R : M → ℕ → M → Type 0)
   pub means : cells_after (C m) ys ≡ cells_after (C start) xs
   pub itself : (n : M) → Performed R W ys m n → Performed R W xs start n
 
-pub going_none : {M : Type 0} (C : M → Cells) (R : M → ℕ → M → Type 0) (W : M → ℕ → ℕ → M → Type 0) (xs : List Access) (m : M) → Going C R W xs xs m m
-going_none C R W xs m = record { means = refl; itself = λ n p. p }
+module _ {M : Type 0} {C : M → Cells} {R : M → ℕ → M → Type 0} {W : M → ℕ → ℕ → M → Type 0} (xs : List Access) (i : ℕ) {start m : M} where
+  -- the access at i is made
+  pub going_on : (x : Access) (n : M) → i < length xs → Going C R W xs (drop i xs) start m → C n ≡ cells_by (C m) (get_or xs i x) → Accessed R W (get_or xs i x) m n → Going C R W xs (drop (i + 1) xs) start n
+  going_on x n within so means own =
+      let left = drop_more xs i x within in
+      let from = subst (λ (ys : List Access). Going C R W xs ys start m) left so in
+      record {
+        means = ap (λ (f : Cells). cells_after f (drop (i + 1) xs)) means ∙ from.means;
+        itself = λ k rest. from.itself k (n, own, rest);
+      }
 
-pub going_more : {M : Type 0} (C : M → Cells) (R : M → ℕ → M → Type 0) (W : M → ℕ → ℕ → M → Type 0) (xs ys : List Access) (x : Access) (start m n : M) → Going C R W xs (x ∷ ys) start m → C n ≡ cells_by (C m) x → Accessed R W x m n → Going C R W xs ys start n
-going_more C R W xs ys x start m n so means own =
-    record {
-      means = ap (λ (f : Cells). cells_after f ys) means ∙ so.means;
-      itself = λ k rest. so.itself k (n, own, rest);
-    }
-
-pub going_all : {M : Type 0} (C : M → Cells) (R : M → ℕ → M → Type 0) (W : M → ℕ → ℕ → M → Type 0) (xs : List Access) (start m : M) → Going C R W xs [] start m → (C m ≡ cells_after (C start) xs) × Performed R W xs start m
-going_all C R W xs start m so = (so.means, so.itself m refl)
-
--- the same, with the accesses that are left as a loop has them
-
-pub going_on : {M : Type 0} (C : M → Cells) (R : M → ℕ → M → Type 0) (W : M → ℕ → ℕ → M → Type 0) (xs : List Access) (i : ℕ) (d : Access) (start m n : M) → i < length xs → Going C R W xs (drop i xs) start m → C n ≡ cells_by (C m) (get_or xs i d) → Accessed R W (get_or xs i d) m n → Going C R W xs (drop (i + 1) xs) start n
-going_on C R W xs i d start m n h so means own =
-    let from : Going C R W xs (get_or xs i d ∷ drop (i + 1) xs) start m = subst (λ (ys : List Access). Going C R W xs ys start m) (drop_more xs i d h) so in
-    going_more C R W xs (drop (i + 1) xs) (get_or xs i d) start m n from means own
-
-pub going_end : {M : Type 0} (C : M → Cells) (R : M → ℕ → M → Type 0) (W : M → ℕ → ℕ → M → Type 0) (xs : List Access) (i : ℕ) (start m : M) → length xs ≤ i → Going C R W xs (drop i xs) start m → (C m ≡ cells_after (C start) xs) × Performed R W xs start m
-going_end C R W xs i start m h so =
-    going_all C R W xs start m (subst (λ (ys : List Access). Going C R W xs ys start m) (drop_all i xs h) so)
+  -- none is left
+  pub going_end : length xs ≤ i → Going C R W xs (drop i xs) start m → (C m ≡ cells_after (C start) xs) × Performed R W xs start m
+  going_end past so =
+      let from = subst (λ (ys : List Access). Going C R W xs ys start m) (drop_all i xs past) so in
+      (from.means, from.itself m refl)
 
 -- the answers so far, with those that are to come
 
-pub answers_on : (xs : List Access) (i : ℕ) (d : Access) (f g : Cells) (got got' all : List Answer) → i < length xs → got ++ answers_of f (drop i xs) ≡ all → got' ≡ got ++ answer_of f (get_or xs i d) ∷ [] → g ≡ cells_by f (get_or xs i d) → got' ++ answers_of g (drop (i + 1) xs) ≡ all
-answers_on xs i d f g got got' all h so more means =
+pub answers_on : (xs : List Access) (i : ℕ) (x : Access) (f g : Cells) (got got' all : List Answer) → i < length xs → got ++ answers_of f (drop i xs) ≡ all → got' ≡ got ++ answer_of f (get_or xs i x) ∷ [] → g ≡ cells_by f (get_or xs i x) → got' ++ answers_of g (drop (i + 1) xs) ≡ all
+answers_on xs i x f g got got' all within so more means =
     ap (λ (ws : List Answer). ws ++ answers_of g (drop (i + 1) xs)) more
-    ∙ append_assoc got (answer_of f (get_or xs i d) ∷ []) (answers_of g (drop (i + 1) xs))
-    ∙ ap (λ (k : Cells). got ++ answer_of f (get_or xs i d) ∷ answers_of k (drop (i + 1) xs)) means
-    ∙ ap (λ (ys : List Access). got ++ answers_of f ys) (sym (drop_more xs i d h))
+    ∙ append_assoc got (answer_of f (get_or xs i x) ∷ []) (answers_of g (drop (i + 1) xs))
+    ∙ ap (λ (k : Cells). got ++ answer_of f (get_or xs i x) ∷ answers_of k (drop (i + 1) xs)) means
+    ∙ ap (λ (ys : List Access). got ++ answers_of f ys) (sym (drop_more xs i x within))
     ∙ so
 
 pub answers_end : (xs : List Access) (i : ℕ) (f : Cells) (got all : List Answer) → length xs ≤ i → got ++ answers_of f (drop i xs) ≡ all → got ≡ all
-answers_end xs i f got all h so =
-    sym (append-nil got) ∙ ap (λ (ys : List Access). got ++ answers_of f ys) (sym (drop_all i xs h)) ∙ so
+answers_end xs i f got all past so =
+    sym (append-nil got) ∙ ap (λ (ys : List Access). got ++ answers_of f ys) (sym (drop_all i xs past)) ∙ so
 
--- whether two memories answer alike throughout, judged by the answers so far: from f and g on, ys are left
-abbrev pub Still : Bool → Type 0 → Cells → Cells → List Access → Type 0
-Still true whole f g ys = (Alike f g ys → whole) × (whole → Alike f g ys)
-Still false whole f g ys = whole → ⊥
+-- two memories answered alike so far, and go on to do so from the cells f and g, where ys are left
+abbrev pub StillAlike : Bool → Cells → Cells → List Access → Type 0
+StillAlike b f g ys = IsTrue b × Alike f g ys
 
-still_more : (b s : Bool) (whole : Type 0) (f g : Cells) (x : Access) (ys : List Access) (p q : Answer) → Still b whole f g (x ∷ ys) → MatchBool s (p ≡ q) (p ≡ q → ⊥) → p ≡ answer_of f x → q ≡ answer_of g x → Still (b && s) whole (cells_by f x) (cells_by g x) ys
-still_more true true whole f g x ys p q so here one other = ((λ e. so.0 (cc)), (λ w. let e = so.1 w in cc))
-still_more true false whole f g x ys p q so apart one other = λ w. apart (let e = so.1 w in cc)
-still_more false true whole f g x ys p q so here one other = so
-still_more false false whole f g x ys p q so apart one other = so
+one_more : (b s : Bool) (f g : Cells) (x : Access) (ys : List Access) (p q : Answer) → MatchBool s (p ≡ q) (p ≡ q → ⊥) → p ≡ answer_of f x → q ≡ answer_of g x → StillAlike b f g (x ∷ ys) ↔ StillAlike (b && s) (cells_by f x) (cells_by g x) ys
+one_more true true f g x ys p q same one other = (λ so. let e = so.1 in (refl, cc), λ so. let e = so.1 in (refl, cc))
+one_more true false f g x ys p q apart one other = (λ so. absurd (apart (let e = so.1 in cc)), λ so. absurd (let e = so.0 in cc))
+one_more false s f g x ys p q _ one other = (λ so. absurd (let e = so.0 in cc), λ so. absurd (let e = so.0 in cc))
 
-pub still_on : (b s : Bool) (whole : Type 0) (xs : List Access) (i : ℕ) (d : Access) (f g f' g' : Cells) (p q : Answer) → i < length xs → Still b whole f g (drop i xs) → MatchBool s (p ≡ q) (p ≡ q → ⊥) → p ≡ answer_of f (get_or xs i d) → q ≡ answer_of g (get_or xs i d) → f' ≡ cells_by f (get_or xs i d) → g' ≡ cells_by g (get_or xs i d) → Still (b && s) whole f' g' (drop (i + 1) xs)
-still_on b s whole xs i d f g f' g' p q h so here one other first second =
-    let from : Still b whole f g (get_or xs i d ∷ drop (i + 1) xs) = subst (λ (ys : List Access). Still b whole f g ys) (drop_more xs i d h) so in
-    let on = still_more b s whole f g (get_or xs i d) (drop (i + 1) xs) p q from here one other in
-    subst (λ (k : Cells). Still (b && s) whole f' k (drop (i + 1) xs)) (sym second)
-    (subst (λ (k : Cells). Still (b && s) whole k (cells_by g (get_or xs i d)) (drop (i + 1) xs)) (sym first) on)
+-- whole says that all of them are answered alike
 
-still_all : (b : Bool) (whole : Type 0) (f g : Cells) → Still b whole f g [] → Decides b whole
-still_all true whole f g so = ((λ e. so.0 refl), (λ w. refl))
-still_all false whole f g so = ((λ e. let z : ◌≡◌ {A = ℕ} 0 1 = cc in absurd (omega arith)), (λ w. absurd (so w)))
+pub alike_on : (b s : Bool) (whole : Type 0) (xs : List Access) (i : ℕ) (x : Access) (f g f' g' : Cells) (p q : Answer) → i < length xs → whole ↔ StillAlike b f g (drop i xs) → MatchBool s (p ≡ q) (p ≡ q → ⊥) → p ≡ answer_of f (get_or xs i x) → q ≡ answer_of g (get_or xs i x) → f' ≡ cells_by f (get_or xs i x) → g' ≡ cells_by g (get_or xs i x) → whole ↔ StillAlike (b && s) f' g' (drop (i + 1) xs)
+alike_on b s whole xs i x f g f' g' p q within so same one other first second =
+    let from = rw (drop_more xs i x within) at so in
+    let on = one_more b s f g (get_or xs i x) (drop (i + 1) xs) p q same one other in
+    rw (first, second) (λ w. on.0 (from.0 w), λ h. from.1 (on.1 h))
 
-pub still_end : (b : Bool) (whole : Type 0) (xs : List Access) (i : ℕ) (f g : Cells) → length xs ≤ i → Still b whole f g (drop i xs) → Decides b whole
-still_end b whole xs i f g h so =
-    still_all b whole f g (subst (λ (ys : List Access). Still b whole f g ys) (drop_all i xs h) so)
+pub alike_end : (b : Bool) (whole : Type 0) (xs : List Access) (i : ℕ) (f g : Cells) → length xs ≤ i → whole ↔ StillAlike b f g (drop i xs) → IsTrue b ↔ whole
+alike_end b whole xs i f g past so =
+    let from = rw (drop_all i xs past) at so in
+    (λ e. from.1 (e, refl), λ w. (from.0 w).0)

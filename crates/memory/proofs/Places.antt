@@ -1,63 +1,34 @@
--- Where a cell stands, what that says of the memory, and what a write to it leaves.
-use Rattle.std.proofs.Common.{◌≡◌, ℕ, zero, suc, ◌+◌, ◌-◌, ◌<◌, ◌||◌, List, [], ◌∷◌, length, get_or, take, drop, set, is_some, Some, None, sym, refl, ◌∙◌, suc-le-suc, le_of_suc-le-suc, not-suc-le-zero, add-one, arith, length-drop, take_all}
+-- What a search for an address among cells says of the memory, and what a write to the cell found leaves.
+use Rattle.std.proofs.Common.{◌≡◌, ℕ, zero, suc, true, ◌∙◌, ap, Bool, ltb, List, [], ◌∷◌, length, get_or, set, is_some, Option, Some, None, sym, refl, arith}
 use mathlib.Core.Path.{fun_ext}
+use Rattle.std.specs.List.{position, position_or_len}
+use Rattle.std.proofs.lemmas.List.Quantifiers.{position-Some}
+use Rattle.std.proofs.lemmas.Grind.{common_steps}
 use Rattle.memory.specs.Cells.{put}
-use Rattle.memory.specs.Pairs.{cell, told, named, place, rewritten, twice}
+use Rattle.memory.specs.Pairs.{cell, told, named, rewritten, twice}
 use Rattle.memory.specs.declared.cell.Cell.{Cell}
+use Rattle.std.specs.Prelude.{◌==◌}
 
-pub place_here : (xs : List Cell) (i : ℕ) (d : Cell) (a : ℕ) → i < length xs → place (take i xs) a ≡ None → (get_or xs i d).address ≡ a → place xs a ≡ Some i
-place_here [] i d a within before same = absurd (not-suc-le-zero within)
-place_here (y ∷ ys) zero d a within before same = grind arith
-place_here (y ∷ ys) (suc i) d a within before same =
-    let more = place_here ys i d a (le_of_suc-le-suc within) in
-    grind arith
+-- does the cell have the address a
+abbrev pub has : ℕ → Cell → Bool
+has a x = x.address == a
 
-pub place_on : (xs : List Cell) (i : ℕ) (d : Cell) (a : ℕ) → i < length xs → place (take i xs) a ≡ None → ((get_or xs i d).address ≡ a → ⊥) → place (take (suc i) xs) a ≡ None
-place_on [] i d a within before apart = absurd (not-suc-le-zero within)
-place_on (y ∷ ys) zero d a within before apart = grind arith
-place_on (y ∷ ys) (suc i) d a within before apart =
-    let more = place_on ys i d a (le_of_suc-le-suc within) in
-    grind arith
-
-pub named-place : (xs : List Cell) (a : ℕ) → is_some (place xs a) ≡ named xs a
-named-place [] a = refl
-named-place (x ∷ xs) a = let more = named-place xs a in grind arith
-
+-- the addresses that have a word are those of the cells
 pub told_named : (xs : List Cell) (a : ℕ) → is_some (told xs a) ≡ named xs a
 told_named [] a = refl
 told_named (x ∷ xs) a = let more = told_named xs a in grind arith
 
-pub held_place : (xs : List Cell) (a : ℕ) → is_some (place xs a) ≡ is_some (told xs a)
-held_place xs a = named-place xs a ∙ sym (told_named xs a)
+-- an address has a word where the search for it ends before the end
+told-position : (xs : List Cell) (a : ℕ) → is_some (told xs a) ≡ ltb (position_or_len (has a) xs) (length xs)
+told-position [] a = refl
+told-position (x ∷ xs) a = let more = told-position xs a in grind (arith, common_steps)
 
-pub told_at : (xs : List Cell) (a i : ℕ) (d : Cell) → place xs a ≡ Some i → (i < length xs) × (told xs a ≡ Some (get_or xs i d).word)
-told_at [] a i d e = (grind arith, grind arith)
-told_at (y ∷ ys) a zero d e = (omega arith, grind arith)
-told_at (y ∷ ys) a (suc i) d e =
-    let rest : place ys a ≡ Some i = grind arith in
-    let more = told_at ys a i d rest in
-    (suc-le-suc more.0, grind arith)
+-- what is rewritten is the cell at which the search ends, and nothing at the end
+rewritten-position : (xs : List Cell) (a w : ℕ) → rewritten xs a w ≡ set xs (position_or_len (has a) xs) (cell a w)
+rewritten-position [] a w = grind arith
+rewritten-position (x ∷ xs) a w = let more = rewritten-position xs a w in grind (arith, common_steps)
 
-pub told_none : (xs : List Cell) (a : ℕ) → place xs a ≡ None → told xs a ≡ None
-told_none xs a e = let held = held_place xs a in grind arith
-
--- a write to the place of a cell, and to no place
-
-pub rewritten_at : (xs : List Cell) (a w i : ℕ) → place xs a ≡ Some i → set xs i (cell a w) ≡ rewritten xs a w
-rewritten_at [] a w i e = grind arith
-rewritten_at (y ∷ ys) a w zero e = grind arith
-rewritten_at (y ∷ ys) a w (suc i) e =
-    let rest : place ys a ≡ Some i = grind arith in
-    let more = rewritten_at ys a w i rest in
-    grind arith
-
-pub rewritten_none : (xs : List Cell) (a w : ℕ) → place xs a ≡ None → xs ≡ rewritten xs a w
-rewritten_none [] a w e = refl
-rewritten_none (y ∷ ys) a w e =
-    let rest : place ys a ≡ None = grind arith in
-    let more = rewritten_none ys a w rest in
-    grind arith
-
+-- the cells then mean what a write makes of what they meant
 told-rewritten_at : (xs : List Cell) (a w b : ℕ) → told (rewritten xs a w) b ≡ put (told xs) a w b
 told-rewritten_at [] a w b = grind arith
 told-rewritten_at (y ∷ ys) a w b = let more = told-rewritten_at ys a w b in grind arith
@@ -65,26 +36,46 @@ told-rewritten_at (y ∷ ys) a w b = let more = told-rewritten_at ys a w b in gr
 pub told-rewritten : (xs : List Cell) (a w : ℕ) → told (rewritten xs a w) ≡ put (told xs) a w
 told-rewritten xs a w = fun_ext (told-rewritten_at xs a w)
 
-named-rewritten : (xs : List Cell) (a w b : ℕ) → named (rewritten xs a w) b ≡ named xs b
-named-rewritten [] a w b = refl
-named-rewritten (y ∷ ys) a w b = let more = named-rewritten ys a w b in grind arith
+-- a cell of the same address in the place of one
+named-set : (xs : List Cell) (i : ℕ) (y : Cell) (w b : ℕ) → y ≡ get_or xs i y → named (set xs i (cell y.address w)) b ≡ named xs b
+named-set [] i y w b here = grind (arith, common_steps)
+named-set (x ∷ xs) zero y w b here = grind (arith, common_steps)
+named-set (x ∷ xs) (suc i) y w b here = let more = named-set xs i y w b here in grind (arith, common_steps)
 
-pub twice-rewritten : (xs : List Cell) (a w : ℕ) → twice (rewritten xs a w) ≡ twice xs
-twice-rewritten [] a w = refl
-twice-rewritten (y ∷ ys) a w =
-    let more = twice-rewritten ys a w in
-    let same = named-rewritten ys a w y.address in
-    grind arith
+pub twice_set : (xs : List Cell) (i : ℕ) (y : Cell) (w : ℕ) → y ≡ get_or xs i y → twice (set xs i (cell y.address w)) ≡ twice xs
+twice_set [] i y w here = grind (arith, common_steps)
+twice_set (x ∷ xs) zero y w here = grind (arith, common_steps)
+twice_set (x ∷ xs) (suc i) y w here =
+    let more = twice_set xs i y w here in
+    let same = named-set xs i y w x.address here in
+    grind (arith, common_steps)
 
--- one cell more that stands once
+-- no cell has the address a
 
-twice_more : (xs : List Cell) (i : ℕ) (d : Cell) → i < length xs → twice (drop i xs) ≡ (named (drop (suc i) xs) (get_or xs i d).address || twice (drop (suc i) xs))
-twice_more [] i d within = absurd (not-suc-le-zero within)
-twice_more (y ∷ ys) zero d within = refl
-twice_more (y ∷ ys) (suc i) d within = twice_more ys i d (le_of_suc-le-suc within)
+pub told_nowhere : (xs : List Cell) (a : ℕ) → None ≡ position (has a) xs → told xs a ≡ None
+told_nowhere xs a none = let held = told-position xs a in grind (arith, common_steps)
 
--- the same, as the code has the rest
-pub twice_part : (xs : List Cell) (i : ℕ) (d : Cell) → i < length xs → twice (drop i xs) ≡ (is_some (place (take (length xs - (i + 1)) (drop (i + 1) xs)) (get_or xs i d).address) || twice (drop (i + 1) xs))
-twice_part xs i d within =
-    let whole : take (length xs - (i + 1)) (drop (i + 1) xs) ≡ drop (i + 1) xs = take_all _ (drop (i + 1) xs) (simp length-drop (omega arith)) in
-    rw (whole, add-one, named-place) (twice_more xs i d within)
+pub rewritten_nowhere : (xs : List Cell) (a w : ℕ) → None ≡ position (has a) xs → rewritten xs a w ≡ xs
+rewritten_nowhere xs a w none = let same = rewritten-position xs a w in grind (arith, common_steps)
+
+pub put_nowhere : (xs : List Cell) (a w : ℕ) → None ≡ position (has a) xs → put (told xs) a w ≡ told xs
+put_nowhere xs a w none = sym (told-rewritten xs a w) ∙ ap told (rewritten_nowhere xs a w none)
+
+-- the cell y at place i is the first of the address a
+
+pub told_at : (xs : List Cell) (a i : ℕ) → Some i ≡ position (has a) xs → is_some (told xs a) ≡ true
+told_at xs a i found = let held = told-position xs a in grind (arith, common_steps)
+
+pub rewritten_at : (xs : List Cell) (a w i : ℕ) (y : Cell) → Some i ≡ position (has a) xs → y ≡ get_or xs i y → rewritten xs a w ≡ set xs i (cell y.address w)
+rewritten_at xs a w i y found here =
+    let same = rewritten-position xs a w in
+    let at = position-Some (has a) xs i y (sym found) in
+    let address : y.address ≡ a = grind (arith, common_steps) in
+    grind (arith, common_steps)
+
+pub put_at : (xs : List Cell) (a w i : ℕ) (y : Cell) (r : Option ℕ) → r ≡ position (has a) xs → r ≡ Some i → y ≡ get_or xs i y → told (set xs i (cell y.address w)) ≡ put (told xs) a w
+put_at xs a w i y r found at here =
+    sym (ap told (rewritten_at xs a w i y (sym at ∙ found) here)) ∙ told-rewritten xs a w
+
+-- what the check of a write cites
+pub ruleset writes = (told_nowhere, rewritten_nowhere, put_nowhere, told_at, rewritten_at, twice_set)

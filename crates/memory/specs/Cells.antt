@@ -1,5 +1,5 @@
 -- The cells of a memory, and a write to them.
-use Rattle.std.specs.Prelude.{ℕ, cond, Some, None, Option, ◌==◌}
+use Rattle.std.specs.Prelude.{ℕ, if◌then◌else◌, Some, None, Option, ◌==◌}
 
 -- What a memory means: for each address the word that it holds there, or none where the address is not held.
 abbrev pub Cells : Type 0
@@ -12,4 +12,4 @@ over (Some v) w = Some w
 
 -- the cells after a write of w at a: all others are as they were, and so is a if it is not held
 abbrev pub put : Cells → ℕ → ℕ → Cells
-put f a w b = cond (b == a) (over (f b) w) (f b)
+put f a w b = if b == a then over (f b) w else f b

@@ -1,12 +1,12 @@
 // Lists of reads and writes, performed on any memory, and the law that two memories of one meaning answer alike.
-ghost use Rattle.std.specs.Prelude.{◌≡◌, true, IfOk, Decides, MatchBool, OnErr, OnOk, ◌≢◌};
+ghost use Rattle.std.specs.Prelude.{◌≡◌, ◌↔◌, IfOk, IsTrue, OnErr, OnOk};
 ghost use Rattle.memory.specs.Accesses.{Accessed, Alike, Performed, answer_of, answers_of, cells_after, cells_by};
 
 use crate::memory::Memory;
 use crate::refusal::NotHeld;
 use std::alloc::{AllocError, Global};
 
-#[derive(Clone, Copy)]
+#[derive(Clone, Copy, Debug, PartialEq, Eq)]
 pub enum Access {
     Read(u16),
     Write(u16, u32),
@@ -20,9 +20,9 @@ pub enum Answer {
 }
 
 fn perform_one<M: Memory>(memory: &mut M, access: Access) -> Answer
-    ensures answer { result ≡ answer_of (M.Memory.cells memory.old) access }
-    ensures means { M.Memory.cells memory.new ≡ cells_by (M.Memory.cells memory.old) access }
-    ensures itself { Accessed M.Memory.reads M.Memory.writes access memory.old memory.new }
+    ensures answer { result ≡ answer_of (M.cells memory.old) access }
+    ensures means { M.cells memory.new ≡ cells_by (M.cells memory.old) access }
+    ensures itself { Accessed M.reads M.writes access memory.old memory.new }
 {
     match access {
         Access::Read(address) => Answer::Word(memory.read(address)),
@@ -36,22 +36,17 @@ pub fn perform<M: Memory>(
     memory: &mut M,
     accesses: &[Access],
 ) -> Result<Vec<Answer>, AllocError>
-    ensures answers { IfOk result (λ v. v.items ≡ answers_of (M.Memory.cells memory.old) accesses.now) }
-    ensures means { OnOk result (M.Memory.cells memory.new ≡ cells_after (M.Memory.cells memory.old) accesses.now) }
-    ensures itself { OnOk result (Performed M.Memory.reads M.Memory.writes accesses.now memory.old memory.new) }
+    ensures answers { IfOk result (λ v. v.items ≡ answers_of (M.cells memory.old) accesses.now) }
+    ensures means { OnOk result (M.cells memory.new ≡ cells_after (M.cells memory.old) accesses.now) }
+    ensures itself { OnOk result (Performed M.reads M.writes accesses.now memory.old memory.new) }
     ensures unchanged { OnErr result (memory.new ≡ memory.old) }
 {
+    // A `collect` may fail for want of memory when some are performed, so the room is taken first.
     let mut answers = Vec::with_capacity(heap, accesses.len())?;
-    for access in accesses {
-        answers.push_reserved(perform_one(memory, *access));
+    for &access in accesses {
+        answers.push_reserved(perform_one(memory, access));
     }
     Ok(answers)
-}
-
-fn same(one: Answer, other: Answer) -> bool
-    ensures { MatchBool result (one ≡ other) (one ≢ other) }
-{
-    one == other
 }
 
 // Performs the accesses on both memories: whether they answered alike throughout.
@@ -60,16 +55,20 @@ pub fn answer_alike<M: Memory, N: Memory>(
     second: &mut N,
     accesses: &[Access],
 ) -> bool
-    ensures answers { Decides result (Alike (M.Memory.cells first.old) (N.Memory.cells second.old) accesses.now) }
-    ensures means { (M.Memory.cells first.new ≡ cells_after (M.Memory.cells first.old) accesses.now) × (N.Memory.cells second.new ≡ cells_after (N.Memory.cells second.old) accesses.now) }
-    ensures itself { (Performed M.Memory.reads M.Memory.writes accesses.now first.old first.new) × (Performed N.Memory.reads N.Memory.writes accesses.now second.old second.new) }
-    ensures law { M.Memory.cells first.old ≡ N.Memory.cells second.old → (result ≡ true) × (M.Memory.cells first.new ≡ N.Memory.cells second.new) }
+    ensures answers { IsTrue result ↔ Alike (M.cells first.old) (N.cells second.old) accesses.now }
+    ensures means { (M.cells first.new ≡ cells_after (M.cells first.old) accesses.now)
+        × (N.cells second.new ≡ cells_after (N.cells second.old) accesses.now) }
+    ensures itself { Performed M.reads M.writes accesses.now first.old first.new
+        × Performed N.reads N.writes accesses.now second.old second.new }
+    ensures law { M.cells first.old ≡ N.cells second.old
+        → IsTrue result × (M.cells first.new ≡ N.cells second.new) }
 {
+    // Not `all`, which would stop at the first difference: both memories get every access.
     let mut alike = true;
-    for access in accesses {
-        let one = perform_one(first, *access);
-        let other = perform_one(second, *access);
-        alike &= same(one, other);
+    for &access in accesses {
+        let one = perform_one(first, access);
+        let other = perform_one(second, access);
+        alike &= one == other;
     }
     alike
 }

@@ -36,21 +36,15 @@ impl Memory for Dense {
     }
 
     fn read(&mut self, address: u16) -> Result<u32, NotHeld> {
-        let i = usize::from(address);
-        if i < SIZE {
-            Ok(self.words[i])
-        } else {
-            Err(NotHeld)
-        }
+        self.words.get(usize::from(address)).copied().ok_or(NotHeld)
     }
 
     fn write(&mut self, address: u16, word: u32) -> Result<(), NotHeld> {
-        let i = usize::from(address);
-        if i < SIZE {
-            self.words[i] = word;
-            Ok(())
-        } else {
-            Err(NotHeld)
+        // Not `get_mut`: a proof then knows nothing of the words afterwards but their number.
+        if !self.holds(address) {
+            return Err(NotHeld);
         }
+        self.words[usize::from(address)] = word;
+        Ok(())
     }
 }

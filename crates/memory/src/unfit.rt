@@ -13,6 +13,7 @@ pub enum Unfit {
 }
 
 impl Unfit {
+    // A method and not a `From`: beside a refusal, `number` says which number it is and `u8::from` would not.
     pub fn number(&self) -> u8
         ensures { result ≡ unfit_number self.now }
     {
@@ -24,7 +25,7 @@ impl Unfit {
 }
 
 // The cells that were handed in come back with the refusal.
-#[derive(Drop)]
+#[derive(Debug, PartialEq, Eq, Drop)]
 pub struct UnfitPairs {
     pub pairs: Vec<Cell>,
     pub unfit: Unfit,

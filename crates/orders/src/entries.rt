@@ -1,5 +1,5 @@
 // What may happen next. The number of a party may be any: whether the routine has such a party is asked later.
-#[derive(Clone, Copy)]
+#[derive(Clone, Copy, Debug, PartialEq, Eq)]
 pub enum Entry {
     // The party performs the instruction at its position.
     Step(usize),

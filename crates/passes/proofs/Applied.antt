@@ -3,14 +3,14 @@ use Rattle.std.proofs.Common.{◌≡◌, ℕ, zero, suc, ◌+◌, ◌<◌, ◌�
 use Rattle.std.proofs.lemmas.List.{get_or_past, get_or-map}
 use Rattle.std.proofs.lemmas.Bool.{cases_lt, cases_eq, and_parts}
 use Rattle.instructions.specs.Thinning.{thin_from}
-use Rattle.grammar.specs.Listings.{Listing, lawful, party_lawful, parties_lawful}
+use Rattle.grammar.specs.Listings.{Listing, code_at, lawful, party_lawful, parties_lawful}
 use Rattle.grammar.proofs.Drafts.{limits}
 use Rattle.paths.specs.Paths.{Code}
 use Rattle.paths.specs.Rules.{TakenOut}
 use Rattle.routine.specs.Parties.{code_of}
 use Rattle.routine.specs.Thins.{thinned_at}
 use Rattle.routine.specs.declared.party.Party.{Party}
-use Rattle.passes.specs.Passes.{code_at, RuleOf, PassedBy}
+use Rattle.passes.specs.Passes.{RuleOf, PassedBy}
 use Rattle.passes.specs.declared.pass.Pass.{Pass}
 
 -- the first n parties are thinned, the others are as they were
@@ -19,14 +19,6 @@ pub record Partly (pass : Pass) (l m : Listing) (n : ℕ) : Type 0 where
   pub count : length m.parties ≡ length l.parties
   pub done : (p : ℕ) → p < n → TakenOut (RuleOf pass (code_at l p)) (code_at l p) (code_at m p)
   pub todo : (p : ℕ) → n ≤ p → code_at m p ≡ code_at l p
-
-pub partly_none : (pass : Pass) (l m : Listing) → m ≡ l → Partly pass l m 0
-partly_none pass l m e = record {
-  inits = ap (λ (q : Listing). q.inits) e;
-  count = ap (λ (q : Listing). length q.parties) e;
-  done = λ p h. absurd (omega arith);
-  todo = λ p h. ap (λ (q : Listing). code_at q p) e;
-}
 
 module _ (pass : Pass) (l m k : Listing) (n : ℕ) (marks : ℕ → Bool) (low : n < length l.parties) (so : Partly pass l m n) (is : k ≡ thinned_at n marks m) where
   here : code_at k n ≡ thin_from marks 0 (code_at l n)
@@ -49,12 +41,9 @@ module _ (pass : Pass) (l m k : Listing) (n : ℕ) (marks : ℕ → Bool) (low :
     todo = λ p h. elsewhere p (λ e. omega (arith, e)) ∙ so.todo p (omega arith);
   }
 
-clash : {P : Type 0} → ◌≡◌ {A = ℕ} 0 1 → P
-clash z = absurd (omega arith)
-
 -- without instructions nothing is taken out
 none_out : (G : ℕ → Type 0) → TakenOut G [] []
-none_out G = record { long = refl; goes = λ k e g. clash (cc); only = λ k e f. clash (cc); stays = λ k h. refl }
+none_out G = record { long = refl; goes = λ k e g. cc; only = λ k e f. cc; stays = λ k h. refl }
 
 pub partly_all : (pass : Pass) (l m : Listing) (n : ℕ) → length l.parties ≤ n → Partly pass l m n → PassedBy pass l m
 partly_all pass l m n high so = record {

@@ -1,10 +1,6 @@
 pub mod Applied
-pub mod Cleared
-pub mod Copied
+pub mod Arriving
+pub mod Exposing
 pub mod Leading
 pub mod Lawful
-pub mod Rounds
-pub mod Shifted
-pub mod Spreads
-pub mod Sweeps
 pub mod Ways

@@ -1,11 +1,10 @@
 -- How control arrives at a position, and what a sweep over all of them keeps.
-use Rattle.std.specs.Prelude.{◌≡◌, ℕ, ◌+◌, ◌-◌, ◌<◌, ◌≤◌, Bool, true, false, cond, ◌⊎◌, List, [], ◌∷◌, length, Some, slice_index_or}
+use Rattle.std.specs.Prelude.{◌≡◌, ℕ, ◌-◌, ◌<◌, ◌≤◌, Bool, true, false, if◌then◌else◌, ◌⊎◌, List, Option, sum_by, slice_index_or}
 use Rattle.instructions.specs.declared.types.Instruction.{Instruction}
-use Rattle.paths.specs.Paths.{Code, fetch, Follows}
+use Rattle.paths.specs.Paths.{Code, Follows}
 use Rattle.paths.specs.Marks.{Walk, Dirty}
 use Rattle.passes.specs.declared.dirty.Arrival.{Arrival}
 use Rattle.passes.specs.declared.dirty.Arrival.TheVariants as arrival
-use Rattle.passes.specs.declared.steps.Next.{Next}
 use Rattle.passes.specs.Local.{is_store, is_barrier, Leads}
 
 -- past the list control never arrives
@@ -18,30 +17,18 @@ rank_of arrival.Never = 0
 rank_of arrival.Clean = 1
 rank_of arrival.Dirty = 2
 
-abbrev pub is_reached : Arrival → Bool
-is_reached arrival.Never = false
-is_reached arrival.Clean = true
-is_reached arrival.Dirty = true
-
-abbrev pub is_dirty : Arrival → Bool
-is_dirty arrival.Never = false
-is_dirty arrival.Clean = false
-is_dirty arrival.Dirty = true
-
 -- the arrival after instruction i, by the one at it
 abbrev pub after_of : Instruction → Arrival → Arrival
 after_of i arrival.Never = arrival.Never
-after_of i arrival.Clean = cond (is_store i) arrival.Dirty arrival.Clean
-after_of i arrival.Dirty = cond (is_barrier i) arrival.Clean arrival.Dirty
+after_of i arrival.Clean = if is_store i then arrival.Dirty else arrival.Clean
+after_of i arrival.Dirty = if is_barrier i then arrival.Clean else arrival.Dirty
 
 -- by how much a list of arrivals can still be raised
 abbrev pub lacking : List Arrival → ℕ
-lacking [] = 0
-lacking (a ∷ more) = (2 - rank_of a) + lacking more
+lacking m = sum_by (λ a. 2 - rank_of a) m
 
 -- m becomes m', the positions of n being raised to t at least; v says whether any was lower
-pub record Spread (n : Next) (t : Arrival) (v : Bool) (m m' : List Arrival) : Type 0 where
-  pub long : length m' ≡ length m
+pub record Spread (n : ℕ × Option ℕ) (t : Arrival) (v : Bool) (m m' : List Arrival) : Type 0 where
   pub same : v ≡ false → m' ≡ m
   pub fewer : v ≡ true → lacking m' < lacking m
   pub raised : (j : ℕ) → Leads n j → rank_of t ≤ rank_of (arrival_at m' j)
@@ -59,11 +46,6 @@ pub record Arrives (c : Code) (m : List Arrival) : Type 0 where
   pub truth : (k : ℕ) → Good c k (arrival_at m k)
   pub start : 1 ≤ rank_of (arrival_at m 0)
 
--- what follows from the positions below n has arrived
-abbrev pub Spent : Code → List Arrival → ℕ → Type 0
-Spent c m n = (k j : ℕ) (i : Instruction) → k < n → fetch c k ≡ Some i → Follows i k j → rank_of (after_of i (arrival_at m k)) ≤ rank_of (arrival_at m j)
-
--- the code is short, and no position that follows is past 32
-pub record Short (c : Code) : Type 0 where
-  pub long : length c ≤ 32
-  pub within : (k j : ℕ) (i : Instruction) → fetch c k ≡ Some i → Follows i k j → j ≤ 32
+-- what follows from position k with instruction i has arrived
+abbrev pub SpentAt : List Arrival → ℕ → Instruction → Type 0
+SpentAt m k i = (j : ℕ) → Follows i k j → rank_of (after_of i (arrival_at m k)) ≤ rank_of (arrival_at m j)

@@ -1,14 +1,10 @@
 -- What a pass makes of a whole routine, and of both passes one after the other.
-use Rattle.std.specs.Prelude.{◌≡◌, ℕ, suc, [], length, slice_index_or}
-use Rattle.grammar.specs.Listings.{Listing}
+use Rattle.std.specs.Prelude.{◌≡◌, ℕ, suc, length}
+use Rattle.grammar.specs.Listings.{Listing, code_at}
 use Rattle.paths.specs.Paths.{Code}
 use Rattle.paths.specs.Rules.{TakenOut, Shielded, Screened}
 use Rattle.passes.specs.declared.pass.Pass.{Pass}
 use Rattle.passes.specs.declared.pass.Pass.TheVariants.{Forward, Backward}
-
--- the code of a party
-abbrev pub code_at : Listing → ℕ → Code
-code_at l p = slice_index_or l.parties p []
 
 -- the rule by which a pass takes out the fence at a position
 abbrev pub RuleOf : Pass → Code → ℕ → Type 0

@@ -1,11 +1,11 @@
 // The backward pass.
 ghost use Rattle.std.specs.Prelude.{◌≡◌};
 ghost use Rattle.passes.specs.Passes.{PassedBy};
+ghost use Rattle.passes.specs.declared.pass.Pass.{Pass};
 ghost use Rattle.routine.specs.Routines.{listing};
 
-use crate::pass::Pass;
 use crate::routines::{Forward, Thinned};
-use crate::thinning::apply;
+use crate::thinning::{BackwardRule, apply};
 
 // Takes out each fence that is followed by a barrier before a write shows.
 pub fn backward(forward: Forward) -> Thinned
@@ -18,6 +18,6 @@ pub fn backward(forward: Forward) -> Thinned
         room,
     } = forward;
     let mut routine = forward.copy_in(room);
-    apply(Pass::Backward, &forward, &mut routine);
+    apply::<BackwardRule>(&forward, &mut routine);
     Thinned::new(original, forward, routine)
 }

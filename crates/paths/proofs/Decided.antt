@@ -1,6 +1,5 @@
 -- Decisions that compute.
 use Rattle.std.proofs.Common.{◌≡◌, ℕ, zero, suc, ◌<◌, Bool, true, false, ◌⊎◌, refl, ap, inl, inr, arith}
-use mathlib.Core.Bool.{false≢true}
 
 abbrev pub sure : {P : Type 0} → Dec P → Bool
 sure (yes p) = true
@@ -12,7 +11,7 @@ sure_in (no n) p = absurd (n p)
 
 pub sure_out : {P : Type 0} (d : Dec P) → sure d ≡ true → P
 sure_out (yes q) e = q
-sure_out (no n) e = absurd (false≢true e)
+sure_out (no n) e = cc
 
 abbrev pub both? : {P Q : Type 0} → Dec P → Dec Q → Dec (P × Q)
 both? (no n) e = no (λ x. n x.0)

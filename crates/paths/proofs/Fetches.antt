@@ -16,7 +16,7 @@ fetch_end (i ∷ c) zero h = absurd (omega arith)
 fetch_end (i ∷ c) (suc k) h = fetch_end c k (omega arith)
 
 pub fetch_below : (c : Code) (k : ℕ) (i : Instruction) → fetch c k ≡ Some i → k < length c
-fetch_below [] k i e = let z : ◌≡◌ {A = ℕ} 0 1 = cc in absurd (omega arith)
+fetch_below [] k i e = cc
 fetch_below (x ∷ c) zero i e = omega arith
 fetch_below (x ∷ c) (suc k) i e = let h = fetch_below c k i e in omega arith
 
@@ -25,13 +25,13 @@ thin_length m n [] = refl
 thin_length m n (i ∷ c) = ap suc (thin_length m (suc n) c)
 
 pub thin_at : (m : ℕ → Bool) (n : ℕ) (c : Code) (k : ℕ) (i : Instruction) → fetch c k ≡ Some i → fetch (thin_from m n c) k ≡ Some (unless (m (n + k)) i)
-thin_at m n [] k i e = let z : ◌≡◌ {A = ℕ} 0 1 = cc in absurd (omega arith)
+thin_at m n [] k i e = cc
 thin_at m n (x ∷ c) zero i e = let f : x ≡ i = cc in rw (add-zero, f)
 thin_at m n (x ∷ c) (suc k) i e = let f : suc n + k ≡ n + suc k = omega arith in let h = thin_at m (suc n) c k i e in rw f at h
 
 pub thin_end : (m : ℕ → Bool) (n : ℕ) (c : Code) (k : ℕ) → fetch c k ≡ None → fetch (thin_from m n c) k ≡ None
 thin_end m n [] k e = refl
-thin_end m n (x ∷ c) zero e = let z : ◌≡◌ {A = ℕ} 0 1 = cc in absurd (omega arith)
+thin_end m n (x ∷ c) zero e = cc
 thin_end m n (x ∷ c) (suc k) e = thin_end m (suc n) c k e
 
 -- marks that agree on the code's positions give the same code

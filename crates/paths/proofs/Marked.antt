@@ -1,5 +1,6 @@
 -- Closed and justified marks decide the rules.
-use Rattle.std.proofs.Common.{◌≡◌, ℕ, suc, Bool, true, false, Some, None, Option, sym, refl, ap, ◌∙◌, zero-add, arith}
+use Rattle.std.proofs.Common.{◌≡◌, ℕ, suc, Bool, true, false, Some, None, Option, sym, refl, ap, ◌∙◌, zero-add}
+use Rattle.std.proofs.lemmas.Bool.{false_from_ne_true}
 use Rattle.instructions.specs.Thinning.{thin_from}
 use Rattle.instructions.specs.declared.types.Instruction.{Instruction}
 use Rattle.instructions.specs.declared.types.Instruction.TheVariants.{Fence, Nop}
@@ -8,13 +9,6 @@ use Rattle.paths.specs.Rules.{TakenOut, Shielded, Screened, ForwardOf, BackwardO
 use Rattle.paths.specs.Marks.{Walk, Bare, Dirty, Exposed, ForwardMarks, BackwardMarks, MarksDecide}
 use Rattle.paths.proofs.Fetches.{thin_length, thin_at, thin_end, unless_same}
 use Rattle.paths.proofs.Roads.{shielded_is, screened_is}
-
-clash : {P : Type 0} {b : Bool} → b ≡ true → b ≡ false → P
-clash p q = let z : ◌≡◌ {A = ℕ} 0 1 = cc in absurd (omega arith)
-
-unmarked : (b : Bool) → ¬ (b ≡ true) → b ≡ false
-unmarked true h = absurd (h refl)
-unmarked false h = refl
 
 walk_marked : {c : Code} {r d : ℕ → Bool} {k l : ℕ} → ForwardMarks c r d → Walk c k l → r k ≡ true → r l ≡ true
 walk_marked m Walk.here h = h
@@ -49,8 +43,7 @@ taken_out m c G out in-by = record { long = thin_length m 0 c; goes = goes; only
         go true q =
             let h = thin_at m 0 c k Fence e in
             let a = zero-add k in
-            let z : ◌≡◌ {A = ℕ} 0 1 = cc in
-            absurd (omega arith)
+            cc
 
     stays : (k : ℕ) → ¬ ((fetch c k ≡ Some Fence) × G k) → fetch (thin_from m 0 c) k ≡ fetch c k
     stays k n = go (fetch c k) refl
@@ -69,11 +62,11 @@ marks_decide = (forward, backward)
     forward : (c : Code) (r d : ℕ → Bool) → ForwardMarks c r d → ForwardOf c (thin_from d 0 c)
     forward c r d m =
         taken_out d c (Shielded c)
-        (λ k s. unmarked (d k) (λ t. (shielded_is c k).0 s (m.dirtied k t)))
-        (λ k f. (shielded_is c k).1 (λ x. clash (dirty_marked m k x) f))
+        (λ k s. false_from_ne_true (d k) (λ t. (shielded_is c k).0 s (m.dirtied k t)))
+        (λ k f. (shielded_is c k).1 (λ x. let e = dirty_marked m k x in cc))
 
     backward : (c : Code) (x : ℕ → Bool) → BackwardMarks c x → BackwardOf c (thin_from (λ k. x (suc k)) 0 c)
     backward c x m =
         taken_out (λ k. x (suc k)) c (λ k. Screened c (suc k))
-        (λ k s. unmarked (x (suc k)) (λ t. (screened_is c (suc k)).0 s (m.exposed (suc k) t)))
-        (λ k f. (screened_is c (suc k)).1 (λ e. clash (exposed_marked m (suc k) e) f))
+        (λ k s. false_from_ne_true (x (suc k)) (λ t. (screened_is c (suc k)).0 s (m.exposed (suc k) t)))
+        (λ k f. (screened_is c (suc k)).1 (λ e. let g = exposed_marked m (suc k) e in cc))

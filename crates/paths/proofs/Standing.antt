@@ -8,11 +8,12 @@ use Rattle.paths.specs.Paths.{Code, fetch, Barrier, StoreAt, Shows}
 use Rattle.paths.proofs.Decided.{change?}
 
 pub none_some : {P : Type 0} {o : Option Instruction} {i : Instruction} → o ≡ None → o ≡ Some i → P
-none_some p q = let z : ◌≡◌ {A = ℕ} 0 1 = cc in absurd (omega arith)
+none_some p q = cc
 
 pub some_same : {o : Option Instruction} {i j : Instruction} → o ≡ Some i → o ≡ Some j → i ≡ j
 some_same p q = cc
 
+-- `cc` would tell constructors apart as well, but its proofs would be part of what the decisions below unfold to
 abbrev pub tag : Instruction → ℕ
 tag (Load r a) = 0
 tag (Store a s) = 1

@@ -1,5 +1,5 @@
 -- The worked examples, by marks that are computed.
-use Rattle.std.proofs.Common.{◌≡◌, ℕ, suc, Bool, true, false, List, [], ◌∷◌, map, length, Some, sym, refl, ap, ◌∙◌, zero-add, arith}
+use Rattle.std.proofs.Common.{◌≡◌, ℕ, suc, Bool, true, false, List, [], ◌∷◌, map, length, Some, sym, refl, ap, ◌∙◌, zero-add}
 use Rattle.instructions.specs.Thinning.{thin_from}
 use Rattle.instructions.specs.declared.types.Instruction.{Instruction}
 use Rattle.instructions.specs.declared.types.Instruction.TheVariants.{Fence, Nop}
@@ -32,7 +32,7 @@ taken_is G m c t u x = same_fetches t (thin_from m 0 c) (λ k. at k (fence_at? c
     fenced k true e f =
         let h = thin_at m 0 c k Fence f in
         let a = zero-add k in
-        let s = x.stays k (λ g. let n = u.goes k f g.1 in let z : ◌≡◌ {A = ℕ} 0 1 = cc in omega arith) in
+        let s = x.stays k (λ g. let n = u.goes k f g.1 in cc) in
         cc
 
     at : (k : ℕ) → Dec (fetch c k ≡ Some Fence) → fetch t k ≡ fetch (thin_from m 0 c) k

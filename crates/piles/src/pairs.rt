@@ -9,23 +9,17 @@ use std::test::Fail;
 
 // Cells of the addresses 0 to count - 1, and then one of the address `last`.
 fn cells(heap: Global, count: u16, last: u16) -> Result<Vec<Cell>, AllocError> {
-    let mut pairs = Vec::new(heap);
-    for address in 0..count {
-        pairs.push(Cell { address, word: 1 })?;
-    }
-    pairs.push(Cell {
+    let first = (0..count).map(|address| Cell { address, word: 1 });
+    let last = Cell {
         address: last,
         word: 2,
-    })?;
-    Ok(pairs)
+    };
+    first.chain([last]).collect(heap)
 }
 
 // Why the cells make no memory, if they make none.
 fn unfit(pairs: Vec<Cell>) -> Option<Unfit> {
-    match Sparse::new(pairs) {
-        Ok(_) => None,
-        Err(refusal) => Some(refusal.unfit),
-    }
+    Sparse::new(pairs).err().map(|refusal| refusal.unfit)
 }
 
 #[test]
@@ -42,15 +36,13 @@ fn counts(rt: HostRuntime) -> Result<(), Fail> {
 
 #[test]
 fn one_pair(rt: HostRuntime) -> Result<(), Fail> {
-    match Sparse::new(cells(rt.alloc(), 0, 65535)?) {
-        Ok(mut memory) => {
-            assert!(rt; memory.holds(65535));
-            assert!(rt; !memory.holds(65534));
-            assert!(rt; !memory.holds(0));
-            assert_eq!(rt; memory.write(0, 5), Err(NotHeld));
-            assert_eq!(rt; memory.read(65535), Ok(2));
-            Ok(())
-        }
-        Err(_) => Err(Fail::new("one pair is refused")),
-    }
+    let Ok(mut memory) = Sparse::new(cells(rt.alloc(), 0, 65535)?) else {
+        return Err(Fail::new("one pair is refused"));
+    };
+    assert!(rt; memory.holds(65535));
+    assert!(rt; !memory.holds(65534));
+    assert!(rt; !memory.holds(0));
+    assert_eq!(rt; memory.write(0, 5), Err(NotHeld));
+    assert_eq!(rt; memory.read(65535), Ok(2));
+    Ok(())
 }

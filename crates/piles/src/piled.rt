@@ -61,9 +61,11 @@ fn performed(rt: HostRuntime) -> Result<(), Fail> {
     let mut memory = Dense::new();
     let accesses = [Access::Write(1, 6), Access::Read(1), Access::Read(256)];
     let answers = perform(rt.alloc(), &mut memory, &accesses)?;
-    assert!(rt; answers.len() == 3);
-    assert_eq!(rt; answers[0], Answer::Written(Ok(())));
-    assert_eq!(rt; answers[1], Answer::Word(Ok(6)));
-    assert_eq!(rt; answers[2], Answer::Word(Err(NotHeld)));
+    let wanted = [
+        Answer::Written(Ok(())),
+        Answer::Word(Ok(6)),
+        Answer::Word(Err(NotHeld)),
+    ];
+    assert_eq!(rt; answers.as_slice(), wanted.as_slice());
     Ok(())
 }

@@ -1,4 +1,2 @@
-pub mod Lengths
 pub mod Texts
-pub mod Writes
-pub mod Whole
+pub mod Written

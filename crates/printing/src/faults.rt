@@ -15,14 +15,14 @@ pub enum PrintFault {
     Short { needed: usize },
 }
 
-impl PrintFault {
-    pub fn code(&self) -> RefusalCode
-        ensures { result ≡ print_code self.now }
-    {
-        match self {
+impl From<PrintFault> for RefusalCode {
+    ghost from_gives = { λ e r. r ≡ print_code e };
+
+    fn from(fault: PrintFault) -> RefusalCode {
+        match fault {
             PrintFault::Short { needed } => RefusalCode {
                 number: 14,
-                value: *needed,
+                value: needed,
             },
         }
     }

@@ -4,5 +4,6 @@
 
 pub mod faults;
 mod lines;
+mod page;
 pub mod print;
-mod write;
+mod text;

@@ -1,25 +1,48 @@
--- Lists that are compared place by place.
-use Rattle.std.proofs.Common.{◌≡◌, ℕ, ◌+◌, ◌<◌, ◌≤◌, true, false, List, map, length, get_or, take, Decides, sym, refl, ap, ◌∙◌}
-use Rattle.std.proofs.lemmas.List.{length-map, get_or-map, take_all, take_more_same}
+-- What `==` says of the parts of two routines.
+use Rattle.std.proofs.Common.{◌≡◌, Bool, false, List, map, Decides, sym, refl, ap, ◌∙◌, rules}
 use Rattle.std.proofs.lemmas.Bool.{false≢true}
+use Rattle.grammar.specs.Listings.{Listing}
+use Rattle.std.specs.Cmp.Lexicographic.{pointwise}
+use Rattle.std.specs.Cmp.Derive.Mapped.{pointwise-map}
+use Rattle.std.proofs.lemmas.Slice.Eq.{slice_eq-Decides}
+use Rattle.instructions.specs.contracts.types.InitPartialEq.TheImpl as init
+use Rattle.instructions.specs.contracts.types.InstructionPartialEq.TheImpl as instruction
+use Rattle.instructions.specs.declared.types.Init.{Init}
+use Rattle.instructions.specs.declared.types.Instruction.{Instruction}
+use Rattle.instructions.specs.declared.types.Instruction.TheVariants.{Load, Store, Exchange, Fence, Nop, Set, Add, JumpNonzero, Jump}
+use Rattle.routine.specs.Parties.{code_of}
+use Rattle.routine.specs.contracts.party.PartyPartialEq.TheImpl as party
+use Rattle.routine.specs.declared.party.Party.{Party}
 
--- the lists are seen through f
-module _ {A K : Type 0} (f : A → K) where
-  at_place : (xs : List A) (i : ℕ) (x : A) (d : K) → i < length xs → x ≡ get_or xs i x → f x ≡ get_or (map f xs) i d
-  at_place xs i x d h e = ap f e ∙ sym (get_or-map f xs i x d h)
+instructions_decided : (a b : Instruction) → Decides (instruction.ghosts.eq a b) (a ≡ b)
+instructions_decided (Load r x) b = search rules
+instructions_decided (Store x s) b = search rules
+instructions_decided (Exchange r x) b = search rules
+instructions_decided Fence b = search rules
+instructions_decided Nop b = search rules
+instructions_decided (Set r s) b = search rules
+instructions_decided (Add r s) b = search rules
+instructions_decided (JumpNonzero r t) b = search rules
+instructions_decided (Jump t) b = search rules
 
-  pub lengths_differ : (xs ys : List A) → (length xs ≡ length ys → ⊥) → Decides false (map f xs ≡ map f ys)
-  lengths_differ xs ys n = ((λ t. absurd (false≢true t)), λ s. absurd (n (sym (length-map xs f) ∙ (ap length s ∙ length-map ys f))))
+code_decided : (a b : List Instruction) → Decides (pointwise instruction.ghosts.eq a b) (a ≡ b)
+code_decided a b = slice_eq-Decides instructions_decided a b _ refl
 
-  pub place_differs : (xs ys : List A) (i : ℕ) (x y : A) → i < length xs → i < length ys → x ≡ get_or xs i x → y ≡ get_or ys i y → (f x ≡ f y → ⊥) → Decides false (map f xs ≡ map f ys)
-  place_differs xs ys i x y h k e g n =
-      ((λ t. absurd (false≢true t)), λ s. absurd (n (at_place xs i x (f x) h e ∙ (ap (λ l. get_or l i (f x)) s ∙ sym (at_place ys i y (f x) k g)))))
+pub inits_decided : (is js : List Init) (r : Bool) → r ≡ pointwise init.ghosts.eq is js → Decides r (is ≡ js)
+inits_decided is js r e = slice_eq-Decides (λ a b. search rules) is js r e
 
-  pub place_agrees : (xs ys : List A) (i : ℕ) (x y : A) → i < length xs → i < length ys → x ≡ get_or xs i x → y ≡ get_or ys i y → f x ≡ f y → take i (map f xs) ≡ take i (map f ys) → take (i + 1) (map f xs) ≡ take (i + 1) (map f ys)
-  place_agrees xs ys i x y h k e g same before =
-      take_more_same (map f xs) (map f ys) i (f x) (simp length-map h) (simp length-map k) before
-      (sym (at_place xs i x (f x) h e) ∙ (same ∙ at_place ys i y (f x) k g))
+pub parties_decided : (ps qs : List Party) (r : Bool) → r ≡ pointwise party.ghosts.eq ps qs → Decides r (map code_of ps ≡ map code_of qs)
+parties_decided ps qs r e =
+    slice_eq-Decides code_decided (map code_of ps) (map code_of qs) r (e ∙ sym (pointwise-map code_of (pointwise instruction.ghosts.eq) ps qs))
 
-  pub all_agree : (xs ys : List A) (i : ℕ) → length xs ≤ i → length ys ≤ i → take i (map f xs) ≡ take i (map f ys) → Decides true (map f xs ≡ map f ys)
-  all_agree xs ys i h k same =
-      ((λ _. sym (take_all i (map f xs) (simp length-map h)) ∙ (same ∙ take_all i (map f ys) (simp length-map k))), λ _. refl)
+-- two listings are equal where both their parts are
+module _ (a b : Listing) (is js : List Init) (is-a : is ≡ a.inits) (js-b : js ≡ b.inits) where
+  pub by_parties : (ps qs : List (List Instruction)) (r : Bool) → ps ≡ a.parties → qs ≡ b.parties → is ≡ js → Decides r (ps ≡ qs) → Decides r (a ≡ b)
+  by_parties ps qs r ps-a qs-b same d = (
+    (λ t. λ i. record { inits = (sym is-a ∙ same ∙ js-b) i; parties = (sym ps-a ∙ d.0 t ∙ qs-b) i }),
+    λ s. d.1 (ps-a ∙ ap (λ (l : Listing). l.parties) s ∙ sym qs-b),
+  )
+
+  pub by_inits : (r : Bool) → r ≡ false → Decides r (is ≡ js) → Decides r (a ≡ b)
+  by_inits r f d =
+      ((λ t. absurd (false≢true (sym f ∙ t))), λ s. d.1 (is-a ∙ ap (λ (l : Listing). l.inits) s ∙ sym js-b))

@@ -1,7 +1,7 @@
 // The cases by name: the text of each stands in NAME.txt, and no-file has none.
 
 // By the question that refuses them, then those where two questions would.
-pub(crate) const REFUSED: [&str; 174] = [
+pub(crate) const REFUSED: &[&str] = &[
     "no-file",
     "empty",
     "one-byte-too-long",
@@ -179,7 +179,7 @@ pub(crate) const REFUSED: [&str; 174] = [
 ];
 
 // On the edge of what is refused.
-pub(crate) const ACCEPTED: [&str; 14] = [
+pub(crate) const ACCEPTED: &[&str] = &[
     "smallest",
     "zeros",
     "greatest-numbers",

@@ -1,38 +1,27 @@
 // What is told of a case.
-ghost use Rattle.std.specs.Prelude.{◌≡◌, ◌++◌, IfOk, string_bytes, codes};
-ghost use Rattle.refusals.specs.Told.{answer_text, code_text};
+ghost use Rattle.std.specs.Prelude.{◌++◌, Some};
+ghost use Rattle.refusals.specs.Told.{answer_text};
 
 use fields::faults::FaultCode;
 use grammar::faults::RoutineFault;
-use std::alloc::{AllocError, Global};
+use std::fmt;
 
-fn line_read(heap: Global, name: &str) -> Result<String, AllocError>
-    ensures { IfOk result (λ s. string_bytes s ≡ name.now ++ codes " READ") }
-{
-    format!(in heap; "{name} READ")
+// A case by its name, and what the reading of its text answered.
+#[derive(Clone, Copy, Debug)]
+pub(crate) struct Told<'a> {
+    pub(crate) name: &'a str,
+    pub(crate) answer: Result<(), RoutineFault>,
 }
 
-fn line_refused(heap: Global, name: &str, code: FaultCode) -> Result<String, AllocError>
-    ensures { IfOk result (λ s. string_bytes s ≡ name.now ++ code_text code) }
-{
-    let FaultCode {
-        number,
-        layer,
-        line,
-    } = code;
-    format!(in heap; "{name} {number} {layer} {line}")
-}
+// The name, and READ or the fault's number, layer and line.
+impl fmt::Display for Told<'_> {
+    ghost output = { λ t. Some (t.name.now ++ answer_text t.answer) };
 
-// The case's name, and READ or the fault's number, layer and line.
-pub(crate) fn line_of(
-    heap: Global,
-    name: &str,
-    answer: Result<(), RoutineFault>,
-) -> Result<String, AllocError>
-    ensures { IfOk result (λ s. string_bytes s ≡ name.now ++ answer_text answer) }
-{
-    match answer {
-        Ok(()) => line_read(heap, name),
-        Err(fault) => line_refused(heap, name, fault.code()),
+    fn fmt<W: fmt::Write>(&self, f: &mut fmt::Formatter<W>) -> fmt::Result {
+        let name = self.name;
+        match self.answer {
+            Ok(()) => write!(f, "{name} READ"),
+            Err(fault) => write!(f, "{name} {}", FaultCode::from(fault)),
+        }
     }
 }

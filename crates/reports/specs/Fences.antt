@@ -1,5 +1,5 @@
 -- The bytes that `fences` prints.
-use Rattle.std.specs.Prelude.{◌≡◌, ℕ, suc, Bool, true, false, cond, List, [], ◌∷◌, ◌++◌, Ok, Err, codes, decimal, Result, slice_index_or}
+use Rattle.std.specs.Prelude.{◌≡◌, ℕ, suc, Bool, true, false, if◌then◌else◌, List, [], ◌∷◌, ◌++◌, Ok, Err, codes, decimal, count_by, Result, slice_index_or}
 use Rattle.fields.specs.declared.faults.FaultCode.{FaultCode}
 use Rattle.instructions.specs.declared.types.Instruction.{Instruction}
 use Rattle.instructions.specs.declared.types.Instruction.TheVariants.{Load, Store, Exchange, Fence, Nop, Set, Add, JumpNonzero, Jump}
@@ -28,8 +28,7 @@ is_fence (Jump t) = false
 
 -- how many MFENCE there are
 abbrev pub fence_count : List Instruction → ℕ
-fence_count [] = 0
-fence_count (i ∷ is) = cond (is_fence i) (suc (fence_count is)) (fence_count is)
+fence_count code = count_by is_fence code
 
 -- FENCES party before after
 abbrev pub fence_line : ℕ → ℕ → ℕ → List ℕ
@@ -42,11 +41,11 @@ fence_lines p (o ∷ os) ts = fence_line p (fence_count o) (fence_count (slice_i
 
 -- what became of a fence: f stands in its place after the forward pass, and t after both
 abbrev pub fate : Instruction → Instruction → List ℕ
-fate f t = cond (is_fence f) (cond (is_fence t) (codes "STAYS") (codes "BACKWARD")) (codes "FORWARD")
+fate f t = if is_fence f then (if is_fence t then codes "STAYS" else codes "BACKWARD") else codes "FORWARD"
 
 -- FENCE party position fate, where o is a fence
 abbrev pub fate_line : ℕ → ℕ → Instruction → Instruction → Instruction → List ℕ
-fate_line p k o f t = cond (is_fence o) (codes "FENCE " ++ (decimal p ++ (32 ∷ (decimal k ++ (32 ∷ (fate f t ++ (10 ∷ []))))))) []
+fate_line p k o f t = if is_fence o then codes "FENCE " ++ (decimal p ++ (32 ∷ (decimal k ++ (32 ∷ (fate f t ++ (10 ∷ [])))))) else []
 
 -- a line for each fence of a party from position k on; fs and ts are its code after each pass
 abbrev pub fate_lines : ℕ → ℕ → Code → Code → Code → List ℕ

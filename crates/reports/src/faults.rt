@@ -6,7 +6,8 @@ ghost use Rattle.reports.specs.declared.faults.ReportFault.{ReportFault};
 use fields::faults::FaultCode;
 use std::alloc::AllocError;
 
-#[derive(Clone, Copy, Debug)]
+// A type of its own, and not AllocError, since it has a code.
+#[derive(Clone, Copy, Debug, PartialEq, Eq)]
 pub enum ReportFault {
     // There is no memory for it.
     Memory,
@@ -20,11 +21,11 @@ impl From<AllocError> for ReportFault {
     }
 }
 
-impl ReportFault {
-    pub fn code(&self) -> FaultCode
-        ensures { result ≡ report_code self.now }
-    {
-        match self {
+impl From<ReportFault> for FaultCode {
+    ghost from_gives = { λ e r. r ≡ report_code e };
+
+    fn from(fault: ReportFault) -> FaultCode {
+        match fault {
             ReportFault::Memory => FaultCode {
                 number: 255,
                 layer: 0,

@@ -2,5 +2,6 @@
 
 #![tactic(auto)]
 
+mod fates;
 pub mod faults;
 pub mod fences;

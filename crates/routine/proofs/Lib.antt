@@ -1,5 +1,4 @@
 pub mod Noting
 pub mod Storing
 pub mod Reading
-pub mod Copying
 pub mod Thinning

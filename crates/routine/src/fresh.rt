@@ -1,32 +1,34 @@
 // A routine fresh from reading.
-ghost use Rattle.std.specs.Prelude.{◌≡◌, IfOk, MatchResult};
+ghost use Rattle.std.specs.Prelude.{◌≡◌, IfOk, OnErr, MatchResult};
 ghost use Rattle.grammar.specs.declared.faults.RoutineFault.{RoutineFault};
-ghost use Rattle.routine.specs.Fresh.{fresh_listing};
+ghost use Rattle.grammar.specs.Reads.{read_of};
+ghost use Rattle.routine.specs.Joins.{Joined};
 ghost use Rattle.routine.specs.Routines.{listing, one_nop};
 
 use crate::draft::Draft;
 use crate::room::Room;
 use crate::routine::Routine;
-use crate::spare::Spare;
 use grammar::faults::RoutineFault;
 use std::alloc::{AllocError, Global};
 
 // Beside the routine it has all the room that reading and both passes need.
 #[derive(Drop)]
 pub struct Fresh {
-    pub(crate) routine: Routine,
-    pub(crate) draft: Draft,
-    // The forward pass copies the routine into it.
-    spare: Spare,
+    routine: Routine,
+    draft: Draft,
+    // The forward pass copies the routine into its room.
+    spare: Routine,
 }
 
 impl Fresh {
+    ghost use Rattle.routine.specs.Fresh.{fresh_listing, ByGrammar};
+
     fn build(heap: Global) -> Result<Fresh, AllocError>
         ensures { IfOk result (λ f. fresh_listing f ≡ one_nop) }
     {
         let routine = Routine::one_nop(heap)?;
         let draft = Draft::new(heap)?;
-        let spare = Spare::new(heap)?;
+        let spare = Routine::one_nop(heap)?;
         Ok(Fresh {
             routine,
             draft,
@@ -40,6 +42,17 @@ impl Fresh {
     {
         let fresh = Fresh::build(heap)?;
         Ok(fresh)
+    }
+
+    // Reads the text into the draft, and takes the draft's storage over where all is well.
+    pub(crate) fn fill(&mut self, text: &[u8]) -> Result<(), RoutineFault>
+        ensures reads { Joined result (read_of text.now) (fresh_listing self.new) }
+        ensures stays { OnErr result (self.new.routine ≡ self.old.routine) }
+        ensures grammar { ByGrammar text.now result self.new }
+    {
+        self.draft.read_text(text)?;
+        self.draft.hand_to(&mut self.routine);
+        Ok(())
     }
 
     pub fn routine(&self) -> &Routine

@@ -7,7 +7,7 @@ mod draft;
 pub mod fresh;
 pub mod party;
 pub mod read;
+mod refill;
 pub mod room;
 pub mod routine;
-mod spare;
 mod storage;

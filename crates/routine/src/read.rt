@@ -2,23 +2,10 @@
 ghost use Rattle.std.specs.Prelude.{◌≡◌, OnErr};
 ghost use Rattle.grammar.specs.Reads.{read_of};
 ghost use Rattle.routine.specs.Fresh.{fresh_listing, ByGrammar};
-ghost use Rattle.routine.specs.Storages.{Joined};
+ghost use Rattle.routine.specs.Joins.{Joined};
 
 use crate::fresh::Fresh;
 use grammar::faults::RoutineFault;
-
-impl Fresh {
-    // Reads the text into the draft, and takes the draft's storage over where all is well.
-    fn fill(&mut self, text: &[u8]) -> Result<(), RoutineFault>
-        ensures reads { Joined result (read_of text.now) (fresh_listing self.new) }
-        ensures stays { OnErr result (self.new.routine ≡ self.old.routine) }
-        ensures grammar { ByGrammar text.now result self.new }
-    {
-        self.draft.read_text(text)?;
-        self.draft.hand_to(&mut self.routine);
-        Ok(())
-    }
-}
 
 // Reads the text: `into` then holds the routine that it spells, or, at the first fault, the very routine that it held.
 pub fn read(text: &[u8], into: &mut Fresh) -> Result<(), RoutineFault>

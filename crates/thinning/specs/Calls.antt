@@ -73,7 +73,7 @@ ending n ready r d =
 
 -- the steps behind of four parties; one that the routine lacks is never behind
 abbrev pub abandoned_at : (ℕ → ℕ) → Reply
-abandoned_at behind = Abandoned (behind 0) (behind 1) (behind 2) (behind 3)
+abandoned_at behind = Abandoned (behind 0 ∷ (behind 1 ∷ (behind 2 ∷ (behind 3 ∷ []))))
 
 abbrev pub called : Listing → Listing → Call → Double → Outcome
 called o t (Feed e) d = if_running d (feeding o t e d)
@@ -93,7 +93,7 @@ replies o t (c ∷ cs) d = (called o t c d).reply ∷ replies o t cs (called o t
 abbrev pub entry_fed : Call → Reply → List Entry
 entry_fed (Feed e) Fed = e ∷ []
 entry_fed (Feed e) Closed = []
-entry_fed (Feed e) (Abandoned a b c d) = []
+entry_fed (Feed e) (Abandoned behind) = []
 entry_fed (Feed e) (Refused f) = []
 entry_fed (Close n) r = []
 entry_fed (Abandon n) r = []

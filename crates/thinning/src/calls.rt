@@ -2,7 +2,7 @@
 use crate::faults::DoubleFault;
 use orders::entries::Entry;
 
-#[derive(Clone, Copy)]
+#[derive(Clone, Copy, Debug, PartialEq, Eq)]
 pub enum Call {
     // The next entry, for the thinned side.
     Feed(Entry),
@@ -12,12 +12,12 @@ pub enum Call {
     Abandon(u16),
 }
 
-#[derive(Clone, Copy)]
+#[derive(Clone, Copy, Debug, PartialEq, Eq)]
 pub enum Reply {
     Fed,
     Closed,
     // How many steps each of four parties was behind, 0 for one that the routine lacks.
-    Abandoned(usize, usize, usize, usize),
+    Abandoned([usize; 4]),
     // Nothing has changed.
     Refused(DoubleFault),
 }

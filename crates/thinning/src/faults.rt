@@ -4,7 +4,7 @@ ghost use Rattle.thinning.specs.Faults.{double_number};
 
 use tso::faults::EntryFault;
 
-#[derive(Clone, Copy)]
+#[derive(Clone, Copy, Debug, PartialEq, Eq)]
 pub enum DoubleFault {
     // The thinned side refuses the entry.
     Entry(EntryFault),
@@ -19,6 +19,7 @@ pub enum DoubleFault {
 }
 
 impl DoubleFault {
+    // A method, since `u8::from` would not say which number it gives.
     pub fn number(self) -> u8
         ensures { result ≡ double_number self }
     {

@@ -2,7 +2,7 @@
 ghost use Rattle.std.specs.Prelude.{◌≡◌};
 ghost use Rattle.tso.specs.Faults.{entry_number};
 
-#[derive(Clone, Copy)]
+#[derive(Clone, Copy, Debug, PartialEq, Eq)]
 pub enum EntryFault {
     // The routine has no such party.
     NoParty,
@@ -17,6 +17,7 @@ pub enum EntryFault {
 }
 
 impl EntryFault {
+    // A method, since `u8::from` would not say which number it gives.
     pub fn number(self) -> u8
         ensures { result ≡ entry_number self }
     {

@@ -12,23 +12,25 @@ loop-access-preserved g c =
     let xs = c.args.accesses.now in
     let i = c.loop-access.access-index in
     let within = c.loop-access-test.true in
-    let m = c.loop-access.memory in
-    let n = c.perform_one.new.memory in (
-      going_on g.M.Memory.cells g.M.Memory.reads g.M.Memory.writes xs i (Read 0) c.args.memory.now m n within inv.0 own.means own.itself,
-      answers_on xs i (Read 0) (g.M.Memory.cells m) (g.M.Memory.cells n) (vec_items c.loop-access.answers) (vec_items c.push_reserved.new.self) (answers_of (g.M.Memory.cells c.args.memory.now) xs) within inv.1 (let e = pushed.items in let a = own.answer in cc) own.means,
-      omega (arith, pushed.len, inv.2),
-      omega (arith, pushed.capacity, inv.3),
-    )
+    let C = g.M.Memory.cells in
+    let n = c.perform_one.new.memory in
+    record {
+      going = going_on xs i (Read 0) n within inv.going own.means own.itself;
+      answers = answers_on xs i (Read 0) (C c.loop-access.memory) (C n) (vec_items c.loop-access.answers) (vec_items c.push_reserved.new.self) (answers_of (C c.args.memory.now) xs) within inv.answers (let e = pushed.items in let a = own.answer in cc) own.means;
+      count = omega (arith, pushed.len, inv.count);
+      room = omega (arith, pushed.capacity, inv.room);
+    }
 
 pub returns : goal.returns
 returns g c =
     let inv = c.loop-access.invariant in
     let xs = c.args.accesses.now in
     let i = c.loop-access.access-index in
-    let m = c.loop-access.memory in
-    let all = going_end g.M.Memory.cells g.M.Memory.reads g.M.Memory.writes xs i c.args.memory.now m c.loop-access-test.false inv.0 in
+    let C = g.M.Memory.cells in
+    let past = c.loop-access-test.false in
+    let all = going_end xs i past inv.going in
     record {
-      answers = answers_end xs i (g.M.Memory.cells m) (vec_items c.loop-access.answers) (answers_of (g.M.Memory.cells c.args.memory.now) xs) c.loop-access-test.false inv.1;
+      answers = answers_end xs i (C c.loop-access.memory) (vec_items c.loop-access.answers) (answers_of (C c.args.memory.now) xs) past inv.answers;
       means = all.0;
       itself = all.1;
       unchanged = tt;

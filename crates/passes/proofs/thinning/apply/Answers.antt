@@ -7,14 +7,11 @@ use Rattle.routine.specs.Parties.{code_of}
 use Rattle.routine.specs.Routines.{listing}
 use Rattle.routine.specs.Thins.{marked}
 use Rattle.passes.specs.Passes.{RuleOf}
-use Rattle.passes.proofs.Applied.{partly_none, partly_more, partly_all, party_lawful_lem, read_code}
+use Rattle.passes.proofs.Applied.{partly_more, partly_all, party_lawful_lem, read_code}
 use Rattle.passes.proofs.thinning.apply.Goals as goal
 
-pub loop-number-init : goal.loop-number-init
-loop-number-init c = partly_none c.args.pass (listing c.args.from.now) (listing c.args.into.now) c.requires
-
-pub staying-stays-requires : goal.staying-stays-requires
-staying-stays-requires c =
+pub staying-requires : goal.staying-requires
+staying-requires g c =
     let r = c.args.from.now in
     let ps = c.parties-party-items.result.now in
     let all = c.parties-party-items.ensures in
@@ -22,17 +19,18 @@ staying-stays-requires c =
     ap party_lawful e ∙ party_lawful_lem (listing r) c.loop-number.number r.within_limits (omega (arith, c.loop-number-test.true, ap length all, length-map ps code_of))
 
 pub loop-number-preserved : goal.loop-number-preserved
-loop-number-preserved c =
+loop-number-preserved g c =
+    let pass = g.R.Rule.pass in
     let r = c.args.from.now in
     let ps = c.parties-party-items.result.now in
     let all = c.parties-party-items.ensures in
     let e = c.code.ensures ∙ read_code ps (listing r).parties c.loop-number.number c.party-item.result all c.loop-number-test.true c.party-item.is in
-    let marks = marked c.staying-stays.result in
-    partly_more c.args.pass (listing r) (listing c.loop-number.into) (listing c.thin.new.self) c.loop-number.number marks (omega (arith, c.loop-number-test.true, ap length all, length-map ps code_of)) c.loop-number.invariant c.thin.ensures
-    (subst (λ is. TakenOut (RuleOf c.args.pass is) is (thin_from marks 0 is)) e c.staying-stays.ensures)
+    let marks = marked c.staying.result in
+    partly_more pass (listing r) (listing c.loop-number.into) (listing c.thin.new.self) c.loop-number.number marks (omega (arith, c.loop-number-test.true, ap length all, length-map ps code_of)) c.loop-number.invariant c.thin.ensures
+    (subst (λ is. TakenOut (RuleOf pass is) is (thin_from marks 0 is)) e c.staying.ensures)
 
 pub returns : goal.returns
-returns c =
+returns g c =
     let r = c.args.from.now in
     let ps = c.parties-party-items.result.now in
-    partly_all c.args.pass (listing r) (listing c.loop-number.into) c.loop-number.number (omega (arith, c.loop-number-test.false, ap length c.parties-party-items.ensures, length-map ps code_of)) c.loop-number.invariant
+    partly_all g.R.Rule.pass (listing r) (listing c.loop-number.into) c.loop-number.number (omega (arith, c.loop-number-test.false, ap length c.parties-party-items.ensures, length-map ps code_of)) c.loop-number.invariant

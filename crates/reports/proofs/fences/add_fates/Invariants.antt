@@ -1,6 +1,9 @@
-use Rattle.std.proofs.Common.{◌≡◌, ◌++◌, drop, vec_items}
-use Rattle.reports.specs.Fences.{fate_lines}
+use Rattle.std.proofs.Common.{◌≡◌, ◌++◌, map, drop, string_bytes}
+use Rattle.routine.specs.Parties.{code_of}
+use Rattle.reports.specs.Fences.{party_fates}
 use Rattle.reports.proofs.fences.add_fates.Given as goal
 
-abbrev pub invariant-loop-k : goal.invariant-loop-k
-invariant-loop-k l = vec_items l.out ++ fate_lines l.party l.k (drop l.k l.original) l.forward l.thinned ≡ vec_items l.initial.out ++ fate_lines l.party 0 l.original l.forward l.thinned
+abbrev pub invariant-loop-number : goal.invariant-loop-number
+invariant-loop-number l =
+    string_bytes l.out ++ party_fates l.number (map code_of (drop l.number l.party-items)) (map code_of l.forward) (map code_of l.both)
+    ≡ string_bytes l.initial.out ++ party_fates 0 (map code_of l.party-items) (map code_of l.forward) (map code_of l.both)

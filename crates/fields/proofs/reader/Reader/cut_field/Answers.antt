@@ -1,29 +1,52 @@
-use Rattle.std.proofs.Common.{suc, ◌+◌, ◌≤◌, cond, sym, refl, ap, ◌∙◌, arith}
-use Rattle.fields.specs.declared.reader.Reader.{Reader}
-use Rattle.fields.proofs.Counting.{newlines_between}
-use Rattle.fields.proofs.Fields.{stretch_length, next_field_more, next_field_last}
+use Rattle.std.proofs.Common.{◌≡◌, ℕ, List, Bor, ◌+◌, [], length, refl, ap, subst, ◌∙◌, arith}
+use Rattle.std.specs.Option.{option_map_or}
+use Rattle.fields.specs.Newlines.{newlines}
+use Rattle.fields.specs.Pieces.{pieces}
+use Rattle.fields.specs.Tokens.{At}
+use Rattle.fields.proofs.Cuts.{pieces_one, pieces-split, length_split}
+use Rattle.fields.proofs.Fields.{rest_within, field_stands, others_stand, others_unbroken}
 use Rattle.fields.proofs.reader.Reader.cut_field.Goals as goal
-use Rattle.fields.proofs.reader.Reader.cut_field.Goals.{then-n-rest, else-n-rest}
 
 pub invariant_of-self : goal.invariant_of-self
 invariant_of-self c =
     let r = c.args.self.now in
-    let n = c.run_to-n.result in
-    let len = stretch_length r.text.now r.place r.stop r.place_within r.stop_within in
-    let inside : r.place + (n + 1) ≤ r.stop = omega (arith, c.if-n-rest.true) in
-    let same = newlines_between r.text.now r.place (r.place + (n + 1)) r.stop (omega arith) inside r.unbroken in
+    let rest = c.in_ok-rest.rest in
+    let field = c.in-Some.field.now in
+    let others = c.in-Some.others in
+    let at = r.stands rest c.in_ok-rest.was in
+    let none = r.unbroken rest c.in_ok-rest.was in
+    let split = c.in-Some.ensures in
     record {
       next_within = r.next_within;
       few_lines = r.few_lines;
-      stop_within = r.stop_within;
-      place_within = inside;
+      place_within = omega (arith, rest_within r.text.now rest.now r.line r.place at r.place_within, length_split 32 rest.now field others.now split);
       counted = r.counted;
-      numbered = ap (λ k. cond r.more (suc k) r.line) same ∙ r.numbered;
-      unbroken = r.unbroken ∙ sym same;
+      stands = λ x is. let e : others ≡ x = cc in subst (λ (b : Bor (List ℕ)). At r.text.now b.now r.line (r.place + (length field + 1))) e (others_stand r.text.now rest.now r.line r.place at field others.now split none);
+      unbroken = λ x is. let e : others ≡ x = cc in subst (λ (b : Bor (List ℕ)). newlines b.now ≡ 0) e (others_unbroken r.text.now rest.now r.line r.place at field others.now split none);
     }
 
-pub returns : goal.returns
-returns c = elim c.if-n-rest.branch [
-  | then-n-rest w ↦ next_field_more c.args.self.now c.if-n-rest.self _ c.run_to-n.result c.if-not-self.false refl c.run_to-n.ensures.is (ap (λ (q : Reader). q.text.now) w.self-is) (ap (λ (q : Reader). q.line) w.self-is) (ap (λ (q : Reader). q.next) w.self-is) w.if-n-rest.true (ap (λ (q : Reader). q.place) w.self-is) (ap (λ (q : Reader). q.stop) w.self-is) (ap (λ (q : Reader). q.more) w.self-is)
-  | else-n-rest w ↦ next_field_last c.args.self.now c.if-n-rest.self _ c.run_to-n.result c.if-not-self.false refl c.run_to-n.ensures.is (ap (λ (q : Reader). q.text.now) w.self-is) (ap (λ (q : Reader). q.line) w.self-is) (ap (λ (q : Reader). q.next) w.self-is) w.if-n-rest.false (ap (λ (q : Reader). q.more) w.self-is)
-]
+pub returns-in-Some : goal.returns-in-Some
+returns-in-Some c =
+    let r = c.args.self.now in
+    let rest = c.in_ok-rest.rest in
+    let field = c.in-Some.field.now in
+    let others = c.in-Some.others.now in
+    record {
+      text = refl;
+      line = refl;
+      next = refl;
+      cut = ap (λ o. option_map_or (λ bs. pieces 32 bs.now) o []) c.in_ok-rest.was ∙ pieces-split 32 rest.now field others c.in-Some.ensures;
+      stands = field_stands r.text.now rest.now r.line r.place (r.stands rest c.in_ok-rest.was) field others c.in-Some.ensures;
+    }
+
+pub returns-in-None : goal.returns-in-None
+returns-in-None c =
+    let r = c.args.self.now in
+    let rest = c.in_ok-rest.rest in
+    record {
+      text = refl;
+      line = refl;
+      next = refl;
+      cut = ap (λ o. option_map_or (λ bs. pieces 32 bs.now) o []) c.in_ok-rest.was ∙ pieces_one 32 rest.now c.in-None.ensures;
+      stands = r.stands rest c.in_ok-rest.was;
+    }

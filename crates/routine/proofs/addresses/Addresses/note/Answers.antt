@@ -1,36 +1,28 @@
-use Rattle.std.proofs.Common.{◌≡◌, length, vec_items, sym, refl, ap, ◌∙◌, arith}
-use Rattle.std.specs.List.{prefix_len}
-use Rattle.std.proofs.lemmas.Bool.{le-leb, lt-leb, cond-true}
-use Rattle.routine.specs.Addresses.{under, stands_at}
-use Rattle.routine.proofs.Noting.{noted_standing, noted_absent}
+use Rattle.std.proofs.Common.{◌≡◌, Ok, vec_items, sym, ap, subst, ◌∙◌, arith}
+use Rattle.std.specs.List.{insert}
+use Rattle.std.specs.List.Sorted.{IsStrictlyIncreasing}
+use Rattle.std.proofs.lemmas.Bool.{cond-true}
+use Rattle.routine.proofs.Noting.{found_few, missing_rising, missing_few, missing_over}
 use Rattle.routine.proofs.addresses.Addresses.note.Goals as goal
 
-pub returns-then-stands_at : goal.returns-then-stands_at
-returns-then-stands_at c =
-    let v = c.args.self.now.list in
-    let place : c.place_of-place.result ≡ prefix_len (under c.args.address) (vec_items v) = c.place_of-place.ensures.is ∙ ap (prefix_len (under c.args.address)) c.as_slice.ensures.value in
-    let same = noted_standing c.args.address (vec_items v) c.place_of-place.result place (ap (λ bs. stands_at bs c.place_of-place.result c.args.address) (sym c.as_slice-2.ensures.value) ∙ sym c.if-stands_at.ensures) in
-    record {
-      answer = sym (le-leb _ 32 (omega (arith, ap length same, c.args.self.now.few, v.ok.0)));
-      after = sym same;
-    }
+pub invariant_of-self-clause-rising : goal.invariant_of-self-clause-rising
+invariant_of-self-clause-rising c =
+    let list = c.args.self.now.list in
+    let new : vec_items c.insert.new.self ≡ insert (vec_items list) c.in-Err.place c.args.address = c.insert.ensures.items ∙ cond-true _ _ _ (c.insert.ensures.succeeds (omega arith)) in
+    subst IsStrictlyIncreasing (sym new) (missing_rising c.args.address (vec_items list) _ c.args.self.now.rising c.deref.ensures.value c.in-Err.place c.in-Err.ensures.position)
 
-pub returns-then-len-ge32 : goal.returns-then-len-ge32
-returns-then-len-ge32 c =
-    let v = c.args.self.now.list in
-    let place : c.place_of-place.result ≡ prefix_len (under c.args.address) (vec_items v) = c.place_of-place.ensures.is ∙ ap (prefix_len (under c.args.address)) c.as_slice.ensures.value in
-    let new = noted_absent c.args.address (vec_items v) c.place_of-place.result place (ap (λ bs. stands_at bs c.place_of-place.result c.args.address) (sym c.as_slice-2.ensures.value) ∙ sym c.if-stands_at.ensures) in
-    record {
-      answer = sym (lt-leb _ 32 (omega (arith, new.1, c.if-len-ge32.true, c.len.ensures, v.ok.0)));
-      after = refl;
-    }
+pub returns-then-len-ge-MOST_ADDRESSES-clause-noted : goal.returns-then-len-ge-MOST_ADDRESSES-clause-noted
+returns-then-len-ge-MOST_ADDRESSES-clause-noted c =
+    let list = c.args.self.now.list in
+    missing_over c.args.address (vec_items list) _ c.args.self.now.rising c.deref.ensures.value c.in-Err.place c.in-Err.ensures.position (omega (arith, list.ok.0))
 
-pub returns : goal.returns
-returns c =
-    let v = c.args.self.now.list in
-    let place : c.place_of-place.result ≡ prefix_len (under c.args.address) (vec_items v) = c.place_of-place.ensures.is ∙ ap (prefix_len (under c.args.address)) c.as_slice.ensures.value in
-    let new = noted_absent c.args.address (vec_items v) c.place_of-place.result place (ap (λ bs. stands_at bs c.place_of-place.result c.args.address) (sym c.as_slice-2.ensures.value) ∙ sym c.if-stands_at.ensures) in
-    record {
-      answer = sym (le-leb _ 32 (omega (arith, new.1, c.if-len-ge32.false, c.len.ensures, v.ok.0)));
-      after = c.insert.ensures.items ∙ cond-true _ _ _ (c.insert.ensures.succeeds (omega (arith, c.if-len-ge32.false, c.len.ensures, c.args.self.now.room))) ∙ sym new.0;
-    }
+pub returns-else-len-ge-MOST_ADDRESSES-clause-noted : goal.returns-else-len-ge-MOST_ADDRESSES-clause-noted
+returns-else-len-ge-MOST_ADDRESSES-clause-noted c =
+    let list = c.args.self.now.list in
+    let new : vec_items c.insert.new.self ≡ insert (vec_items list) c.in-Err.place c.args.address = c.insert.ensures.items ∙ cond-true _ _ _ (c.insert.ensures.succeeds (omega arith)) in
+    missing_few c.args.address (vec_items list) _ c.args.self.now.rising c.deref.ensures.value c.in-Err.place c.in-Err.ensures.position (omega (arith, list.ok.0)) ∙ ap (λ bs. Ok bs) (sym new)
+
+pub returns-in_default-clause-noted : goal.returns-in_default-clause-noted
+returns-in_default-clause-noted c =
+    let list = c.args.self.now.list in
+    found_few c.args.address (vec_items list) _ c.args.self.now.rising c.deref.ensures.value _ c.in_default.field-0 c.in_default.is c.binary_search.ensures.position (omega (arith, list.ok.0))

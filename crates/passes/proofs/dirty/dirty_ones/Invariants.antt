@@ -1,5 +1,0 @@
-use Rattle.passes.proofs.Copied.{Copied}
-use Rattle.passes.proofs.dirty.dirty_ones.Given as goal
-
-abbrev pub invariant-loop-k : goal.invariant-loop-k
-invariant-loop-k l = Copied l.arrivals l.marks l.k

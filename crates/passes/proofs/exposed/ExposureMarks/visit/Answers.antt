@@ -1,0 +1,6 @@
+use Rattle.std.proofs.Common.{sym, ◌∙◌}
+use Rattle.passes.proofs.Exposing.{sound_more}
+use Rattle.passes.proofs.exposed.ExposureMarks.visit.Goals as goal
+
+pub returns-clause-sound : goal.returns-clause-sound
+returns-clause-sound c code at sound = sound_more code c.args.self.now.marks c.args.k c.args.instruction sound at (sym c.look.ensures ∙ c.if-not-look.false)

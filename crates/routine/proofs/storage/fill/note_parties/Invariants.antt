@@ -1,8 +1,0 @@
-use Rattle.std.proofs.Common.{◌≡◌, map, drop}
-use Rattle.grammar.specs.Listings.{noted_parties}
-use Rattle.routine.specs.Addresses.{noted_list}
-use Rattle.routine.specs.Parties.{code_of}
-use Rattle.routine.proofs.storage.fill.note_parties.Given as goal
-
-abbrev pub invariant-loop-party : goal.invariant-loop-party
-invariant-loop-party l = noted_parties (map code_of (drop l.party-index l.parties)) (noted_list l.addresses) ≡ noted_parties (map code_of l.parties) (noted_list l.initial.addresses)
