@@ -1,6 +1,6 @@
 // A cache of four lines of one word over any memory.
 ghost use Rattle.std.specs.Prelude.{◌≡◌, None, OnErr, is_some};
-ghost use Rattle.memory.specs.Answers.{read_answer};
+ghost use Rattle.memory.specs.Answers.{read_answer, written};
 ghost use Rattle.memory.specs.Cells.{put};
 ghost use Rattle.layers.specs.Caches.{CacheRead, CacheWritten, WrittenDown, cache_cells};
 ghost use Rattle.layers.specs.Lines.{empty_lines, line_of, lined, word_in};
@@ -62,6 +62,19 @@ impl<M: Memory> Cache<M> {
         self.take_over(address, word);
         Ok(word)
     }
+
+    // Puts the word into the address's line, once the address is there.
+    fn store(&mut self, address: u16, word: u32) -> Result<(), NotHeld>
+        ensures answer { result ≡ written (cache_cells M.cells self.old address) }
+        ensures means { cache_cells M.cells self.new
+            ≡ put (cache_cells M.cells self.old) address word }
+        ensures itself { CacheWritten M.cells M.reads M.writes self.old address word self.new }
+        ensures unchanged { OnErr result (self.new ≡ self.old) }
+    {
+        self.read(address)?;
+        self.lines.replace(address, word);
+        Ok(())
+    }
 }
 
 impl<M: Memory> Memory for Cache<M> {
@@ -89,10 +102,7 @@ impl<M: Memory> Memory for Cache<M> {
         }
     }
 
-    // Puts the word into the address's line, once the address is there.
     fn write(&mut self, address: u16, word: u32) -> Result<(), NotHeld> {
-        self.read(address)?;
-        self.lines.replace(address, word);
-        Ok(())
+        self.store(address, word)
     }
 }

@@ -1,5 +1,5 @@
 -- What a search for an address among cells says of the memory, and what a write to the cell found leaves.
-use Rattle.std.proofs.Common.{◌≡◌, ℕ, zero, suc, true, ◌∙◌, ap, Bool, ltb, List, [], ◌∷◌, length, get_or, set, is_some, Option, Some, None, sym, refl, arith}
+use Rattle.std.proofs.Common.{◌≡◌, ℕ, zero, suc, true, ◌∙◌, ap, Bool, ltb, List, [], ◌∷◌, length, get_or, set, is_some, Some, None, sym, refl, arith}
 use mathlib.Core.Path.{fun_ext}
 use Rattle.std.specs.List.{position, position_or_len}
 use Rattle.std.proofs.lemmas.List.Quantifiers.{position-Some}
@@ -73,9 +73,8 @@ rewritten_at xs a w i y found here =
     let address : y.address ≡ a = grind (arith, common_steps) in
     grind (arith, common_steps)
 
-pub put_at : (xs : List Cell) (a w i : ℕ) (y : Cell) (r : Option ℕ) → r ≡ position (has a) xs → r ≡ Some i → y ≡ get_or xs i y → told (set xs i (cell y.address w)) ≡ put (told xs) a w
-put_at xs a w i y r found at here =
-    sym (ap told (rewritten_at xs a w i y (sym at ∙ found) here)) ∙ told-rewritten xs a w
+pub put_at : (xs : List Cell) (a w i : ℕ) (y : Cell) → position (has a) xs ≡ Some i → y ≡ get_or xs i y → told (set xs i (cell y.address w)) ≡ put (told xs) a w
+put_at xs a w i y found here = sym (ap told (rewritten_at xs a w i y (sym found) here)) ∙ told-rewritten xs a w
 
 -- what the check of a write cites
 pub ruleset writes = (told_nowhere, rewritten_nowhere, put_nowhere, told_at, rewritten_at, twice_set)

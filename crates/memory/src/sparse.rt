@@ -1,5 +1,6 @@
 // The memory of a few cells, which are handed in as it is made.
-ghost use Rattle.std.specs.Prelude.{◌≡◌, ◌≤◌, ◌==◌, ℕ, false, is_some, position, vec_len, IfOk};
+ghost use Rattle.std.specs.Prelude.{◌≡◌, ◌≤◌, ◌==◌, ℕ, Some, false, is_some, position, vec_len, IfOk};
+ghost use Rattle.memory.specs.Cells.{put};
 ghost use Rattle.memory.specs.Pairs.{named, rewritten, told, twice, unfit};
 
 use crate::cell::Cell;
@@ -78,6 +79,17 @@ impl Sparse {
     {
         self.pairs.iter().position(|pair| pair.address == address)
     }
+
+    // Puts the word into the first cell of the address, which stands at that place.
+    // Not through `iter_mut`: a proof then knows nothing of the cells afterwards but their number.
+    #[tactic(auto, using(crate::proofs::Places::writes))]
+    fn rewrite(&mut self, place: usize, address: u16, word: u32)
+        requires { position (λ p. p.address == address) self.old.pairs.items ≡ Some place }
+        ensures cells { self.new.pairs.items ≡ rewritten self.old.pairs.items address word }
+        ensures means { told self.new.pairs.items ≡ put (told self.old.pairs.items) address word }
+    {
+        self.pairs[place].word = word;
+    }
 }
 
 impl Memory for Sparse {
@@ -104,8 +116,7 @@ impl Memory for Sparse {
         let Some(place) = self.place_of(address) else {
             return Err(NotHeld);
         };
-        // Not through `iter_mut`: a proof then knows nothing of the cells afterwards but their number.
-        self.pairs[place].word = word;
+        self.rewrite(place, address, word);
         Ok(())
     }
 }

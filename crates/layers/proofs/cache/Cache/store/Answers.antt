@@ -4,7 +4,7 @@ use Rattle.memory.specs.Cells.{Cells, put}
 use Rattle.layers.specs.Lines.{Slots, laid}
 use Rattle.layers.proofs.Fetching.{read_held, write_after_read}
 use Rattle.layers.proofs.Laid.{laid-lined}
-use Rattle.layers.proofs.cache.CacheMemory.write.Goals as goal
+use Rattle.layers.proofs.cache.Cache.store.Goals as goal
 
 pub returns : goal.returns
 returns g c =
