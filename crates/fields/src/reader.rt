@@ -11,6 +11,7 @@ use crate::tokens::{Place, Token};
 
 #[derive(Drop)]
 pub struct Reader<'a> {
+    // The whole text, so that it can be told of each field where it stands.
     text: &'a [u8],
     // Where the next line begins.
     next: usize,

@@ -11,6 +11,7 @@ pub enum Register {
 }
 
 impl Register {
+    // A method, since `u8::from` would not say that the byte is a letter.
     pub fn letter(self) -> u8
         ensures { result ≡ letter_of self }
     {

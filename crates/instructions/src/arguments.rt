@@ -99,6 +99,9 @@ fn number_up_to(field: Token, max: u32) -> Option<u32>
     }
 }
 
+// The kinds of numbers, by type. One impl under a bound would have to ask each type for its greatest number and for
+// its way from a u32, and would be longer than the three.
+
 // The position that a jump goes to.
 impl Argument for u8 {
     ghost is_kind = { is_number };

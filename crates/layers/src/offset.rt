@@ -19,7 +19,7 @@ impl<M: Memory> Offset<M> {
         Offset { below, distance }
     }
 
-    // The memory below, as it stands.
+    // The memory below, as it stands. A trait for this and the cache's would have one method, and no caller.
     pub fn into_below(self) -> M
         ensures { result ≡ self.below }
     {

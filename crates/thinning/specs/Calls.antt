@@ -1,5 +1,5 @@
 -- A double run: what each call answers and leaves.
-use Rattle.std.specs.Prelude.{ℕ, zero, suc, Bool, true, false, cond, ◌&&◌, List, [], ◌∷◌, ◌++◌, length, ◌==◌, nat_lt}
+use Rattle.std.specs.Prelude.{ℕ, zero, suc, Bool, true, false, if◌then◌else◌, ◌&&◌, List, [], ◌∷◌, ◌++◌, length, ◌==◌, nat_lt}
 use Rattle.grammar.specs.Listings.{Listing}
 use Rattle.memory.specs.Cells.{Cells}
 use Rattle.orders.specs.declared.entries.Entry.{Entry}
@@ -41,7 +41,7 @@ refused_by f d = record { reply = Refused f; left = d }
 
 -- asked only while the double run is open
 abbrev pub if_running : Double → Outcome → Outcome
-if_running d x = cond d.control.running x (refused_by fault.Ended d)
+if_running d x = if d.control.running then x else refused_by fault.Ended d
 
 -- the answer to an entry on which the thinned side made that turn
 abbrev pub reply_to : Turn → Reply
@@ -51,9 +51,9 @@ reply_to (moved u) = Fed
 -- a feed asks for room first, and then the thinned side
 abbrev pub feeding : Listing → Listing → Entry → Double → Outcome
 feeding o t e d =
-    cond (nat_lt (length d.pair.accepted) limit)
-    (record { reply = reply_to (next t e d.pair.thinned); left = record { pair = fed o t e d.pair; control = d.control } })
-    (refused_by fault.Limit d)
+    if nat_lt (length d.pair.accepted) limit
+    then record { reply = reply_to (next t e d.pair.thinned); left = record { pair = fed o t e d.pair; control = d.control } }
+    else refused_by fault.Limit d
 
 -- no write of the parties below the number waits
 abbrev pub none_waits : ℕ → (ℕ → Party) → Bool
@@ -67,9 +67,9 @@ drained_out t d = none_waits (length t.parties) d.thinned.party
 -- the end, with that answer, by a tag of that number, if the double run is ready for it
 abbrev pub ending : ℕ → Bool → Reply → Double → Outcome
 ending n ready r d =
-    cond (n == d.control.number)
-    (cond ready (record { reply = r; left = record { pair = d.pair; control = record { running = false; number = d.control.number } } }) (refused_by fault.Waiting d))
-    (refused_by fault.Tag d)
+    if n == d.control.number
+    then (if ready then record { reply = r; left = record { pair = d.pair; control = record { running = false; number = d.control.number } } } else refused_by fault.Waiting d)
+    else refused_by fault.Tag d
 
 -- the steps behind of four parties; one that the routine lacks is never behind
 abbrev pub abandoned_at : (ℕ → ℕ) → Reply

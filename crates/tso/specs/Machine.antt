@@ -1,5 +1,5 @@
 -- The machine: what an entry does, step by step.
-use Rattle.std.specs.Prelude.{ℕ, suc, ◌+◌, ◌%◌, ◌^◌, Bool, true, false, cond, List, [], ◌∷◌, ◌++◌, length, Some, None, Option, ◌==◌, nat_lt}
+use Rattle.std.specs.Prelude.{ℕ, suc, ◌+◌, ◌%◌, ◌^◌, Bool, true, false, if◌then◌else◌, List, [], ◌∷◌, ◌++◌, length, Some, None, Option, ◌==◌, nat_lt}
 use Rattle.fields.specs.declared.registers.Register.{Register}
 use Rattle.fields.specs.declared.registers.Register.TheVariants.{A, B, C, D}
 use Rattle.instructions.specs.declared.types.Instruction.{Instruction}
@@ -32,7 +32,7 @@ depth_of l = 8
 
 -- f with v at k
 abbrev pub updated : {V : Type 0} → (ℕ → V) → ℕ → V → ℕ → V
-updated f k v j = cond (j == k) v (f j)
+updated f k v j = if j == k then v else f j
 
 abbrev pub same_register : Register → Register → Bool
 same_register A A = true
@@ -54,7 +54,7 @@ same_register D D = true
 
 -- the registers with v in r
 unfoldable pub in_register : (Register → ℕ) → Register → ℕ → Register → ℕ
-in_register f r v q = cond (same_register q r) v (f q)
+in_register f r v q = if same_register q r then v else f q
 
 unfoldable pub operand_value : (Register → ℕ) → Operand → ℕ
 operand_value f (operand.Register r) = f r
@@ -68,7 +68,7 @@ later None o = o
 -- the word of the newest waiting write to the address, if one waits
 unfoldable pub newest : List Write → ℕ → Option ℕ
 newest [] a = None
-newest (w ∷ ws) a = later (newest ws a) (cond (w.address == a) (Some w.word) None)
+newest (w ∷ ws) a = later (newest ws a) (if w.address == a then Some w.word else None)
 
 -- the word of a cell, and 0 where none is held
 abbrev pub word_of : Option ℕ → ℕ
@@ -96,7 +96,7 @@ stepped Fence p m = onward p p.registers
 stepped Nop p m = onward p p.registers
 stepped (Set r s) p m = onward p (in_register p.registers r (operand_value p.registers s))
 stepped (Add r s) p m = onward p (in_register p.registers r ((p.registers r + operand_value p.registers s) % 2 ^ 32))
-stepped (JumpNonzero r t) p m = record { position = cond (p.registers r == 0) (suc p.position) t; registers = p.registers; buffer = p.buffer }
+stepped (JumpNonzero r t) p m = record { position = if p.registers r == 0 then suc p.position else t; registers = p.registers; buffer = p.buffer }
 stepped (Jump t) p m = record { position = t; registers = p.registers; buffer = p.buffer }
 
 -- the words after it: only an exchange reaches memory at once
@@ -114,9 +114,9 @@ words_after (Jump t) p m = m
 -- why the instruction is refused, if it is; n writes may wait
 abbrev pub step_fault : ℕ → Instruction → Party → Option EntryFault
 step_fault n (Load r a) p = None
-step_fault n (Store a s) p = cond (nat_lt (length p.buffer) n) None (Some BufferFull)
-step_fault n (Exchange r a) p = cond (is_empty p.buffer) None (Some BufferNotEmpty)
-step_fault n Fence p = cond (is_empty p.buffer) None (Some BufferNotEmpty)
+step_fault n (Store a s) p = if nat_lt (length p.buffer) n then None else Some BufferFull
+step_fault n (Exchange r a) p = if is_empty p.buffer then None else Some BufferNotEmpty
+step_fault n Fence p = if is_empty p.buffer then None else Some BufferNotEmpty
 step_fault n Nop p = None
 step_fault n (Set r s) p = None
 step_fault n (Add r s) p = None
@@ -146,8 +146,8 @@ drain_of (w ∷ ws) p s = moved (record { party = updated s.party p (drained (s.
 
 -- what the entry comes to on a run of the routine in that state
 abbrev pub next : Listing → Entry → State → Turn
-next l (Step p) s = cond (nat_lt p (length l.parties)) (step_at (depth_of l) (fetch (code_at l p) (s.party p).position) p s) (refused NoParty)
-next l (Drain p) s = cond (nat_lt p (length l.parties)) (drain_of (s.party p).buffer p s) (refused NoParty)
+next l (Step p) s = if nat_lt p (length l.parties) then step_at (depth_of l) (fetch (code_at l p) (s.party p).position) p s else refused NoParty
+next l (Drain p) s = if nat_lt p (length l.parties) then drain_of (s.party p).buffer p s else refused NoParty
 
 -- the state after an order of which every entry is accepted in turn
 abbrev pub runs : Listing → List Entry → State → Option State

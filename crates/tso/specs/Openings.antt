@@ -1,5 +1,5 @@
 -- How a run of a routine starts on a memory.
-use Rattle.std.specs.Prelude.{◌≡◌, ℕ, Bool, false, cond, ◌||◌, List, [], ◌∷◌, Some, None, Option, ◌==◌}
+use Rattle.std.specs.Prelude.{◌≡◌, ℕ, Bool, false, if◌then◌else◌, ◌||◌, List, [], ◌∷◌, Some, None, Option, ◌==◌}
 use Rattle.instructions.specs.declared.types.Init.{Init}
 use Rattle.grammar.specs.Listings.{Listing, addresses_of}
 use Rattle.memory.specs.Cells.{Cells, put}
@@ -9,7 +9,7 @@ use Rattle.tso.specs.Machine.{Party, State, runs}
 -- the starting word of an address: that of its INIT line, and 0 without one
 abbrev pub start_of : List Init → ℕ → ℕ
 start_of [] a = 0
-start_of (i ∷ is) a = cond (i.address == a) i.value (start_of is a)
+start_of (i ∷ is) a = if i.address == a then i.value else start_of is a
 
 -- the first of the addresses that the memory does not hold
 abbrev pub missing : Cells → List ℕ → Option ℕ

@@ -1,5 +1,5 @@
 -- What an order comes to, entry by entry, and on which words of the memory that depends.
-use Rattle.std.specs.Prelude.{◌≡◌, ℕ, Bool, true, false, cond, ◌⊎◌, List, [], ◌∷◌, ◌++◌, is_some, Some, None, Option}
+use Rattle.std.specs.Prelude.{◌≡◌, ℕ, Bool, true, false, if◌then◌else◌, ◌⊎◌, List, [], ◌∷◌, ◌++◌, is_some, Some, None, Option}
 use Rattle.instructions.specs.declared.types.Init.{Init}
 use Rattle.instructions.specs.declared.types.Instruction.{Instruction}
 use Rattle.grammar.specs.Listings.{Listing, code_at, address_in, addresses_of}
@@ -37,7 +37,7 @@ all_accepted (Some n ∷ os) = false
 
 -- an order runs to its end exactly where every entry is accepted, and to the state after them
 abbrev pub RunsAsAnswered : Type 0
-RunsAsAnswered = (l : Listing) (es : List Entry) (s : State) → runs l es s ≡ cond (all_accepted (answers_of l es s)) (Some (after_all l es s)) None
+RunsAsAnswered = (l : Listing) (es : List Entry) (s : State) → runs l es s ≡ (if all_accepted (answers_of l es s) then Some (after_all l es s) else None)
 
 -- the address stands in an INIT line, or in an instruction of a party
 abbrev pub InInits : ℕ → List Init → Type 0
@@ -70,7 +70,7 @@ TouchesHeldWords = (l : Listing) (f : Cells) (es : List Entry) → Holds f l →
 
 -- the cells at the listed addresses, and none elsewhere
 abbrev pub within : List ℕ → Cells → Cells
-within ks f a = cond (member a ks) (f a) None
+within ks f a = if member a ks then f a else None
 
 -- the state with the words at the routine's addresses alone
 abbrev pub restricted : Listing → State → State

@@ -1,5 +1,5 @@
 -- What a run leaves behind it: each party's steps, all arrivals in memory; and when one order rearranges another.
-use Rattle.std.specs.Prelude.{◌≡◌, ℕ, ◌+◌, Bool, false, cond, List, [], ◌∷◌, ◌++◌, Some, None, Option, ◌==◌}
+use Rattle.std.specs.Prelude.{◌≡◌, ℕ, ◌+◌, Bool, false, if◌then◌else◌, List, [], ◌∷◌, ◌++◌, Some, None, Option, ◌==◌}
 use Rattle.instructions.specs.declared.types.Instruction.{Instruction}
 use Rattle.instructions.specs.declared.types.Instruction.TheVariants.{Load, Store, Exchange, Fence, Nop, Set, Add, JumpNonzero, Jump}
 use Rattle.grammar.specs.Listings.{Listing, code_at}
@@ -16,7 +16,7 @@ gathered f l (e ∷ es) s = elim (next l e s) [ refused n ↦ [] | moved u ↦ f
 
 -- the position that the party stood at, if the entry is a step of it
 abbrev pub stood_at : ℕ → Entry → State → List ℕ
-stood_at p (Step q) s = cond (p == q) ((s.party q).position ∷ []) []
+stood_at p (Step q) s = if p == q then (s.party q).position ∷ [] else []
 stood_at p (Drain q) s = []
 
 -- a word that reached memory: whose, where, and which
@@ -62,7 +62,7 @@ same_entry (Drain p) (Drain q) = p == q
 -- how often an entry occurs in an order
 abbrev pub occurs : Entry → List Entry → ℕ
 occurs e [] = 0
-occurs e (x ∷ xs) = cond (same_entry e x) 1 0 + occurs e xs
+occurs e (x ∷ xs) = (if same_entry e x then 1 else 0) + occurs e xs
 
 -- one order rearranges another: each entry occurs equally often in both
 abbrev pub Rearranges : List Entry → List Entry → Type 0
