@@ -13,6 +13,9 @@ use crate::page::Page;
 use crate::text::{Text, write_all};
 use routine::routine::Routine;
 
+// How many bytes a routine's text has at most.
+pub const LONGEST_PRINT: usize = 2952;
+
 impl Text for Routine {
     ghost text = { routine_text };
 

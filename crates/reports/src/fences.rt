@@ -16,15 +16,12 @@ use instructions::types::Instruction;
 use passes::backward::backward;
 use passes::forward::forward;
 use passes::routines::Thinned;
-use printing::print::print;
+use printing::print::{LONGEST_PRINT, print};
 use routine::fresh::Fresh;
 use routine::party::Party;
 use routine::read::read;
 use routine::routine::Routine;
 use std::alloc::{AllocError, Global};
-
-// How many bytes a routine's text has at most.
-const LONGEST_PRINT: usize = 2952;
 
 fn fault_report(heap: Global, fault: RoutineFault) -> Result<Vec<u8>, AllocError>
     ensures { IfOk result (λ v. v.items ≡ fault_line (routine_code fault)) }

@@ -12,6 +12,7 @@ ghost use Rattle.routine.specs.Routines.{listing};
 ghost use Rattle.routine.specs.Storages.{parties_of, listing_of, IsComplete};
 
 use crate::party::{MOST_INSTRUCTIONS, Party};
+use crate::read::LONGEST_TEXT;
 use crate::room::Room;
 use crate::routine::Routine;
 use crate::storage::{MOST_PARTIES, Storage};
@@ -22,8 +23,6 @@ use instructions::types::{Instruction, Line, Stage};
 use std::alloc::{AllocError, Global};
 
 const FEWEST_PARTIES: usize = 1;
-
-const LONGEST_TEXT: usize = 8192;
 
 #[derive(Drop)]
 pub struct Draft {
