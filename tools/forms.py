@@ -200,7 +200,7 @@ def main():
     proofs = {p: open(p).read() for p in files("proofs", ".antt")}
     specs = {p: open(p).read() for p in files("specs", ".antt")}
     every = "\n".join(list(proofs.values()) + list(specs.values()) + list(texts.values()))
-    used = collections.Counter(re.findall(r"[^\s(){},;.\[\]◌]+", every))
+    used = collections.Counter(re.findall(r"[^\s(){},;:.\[\]◌]+", every))
     for p, t in proofs.items():
         if os.path.basename(p) in ("Answers.antt", "Invariants.antt", "Lib.antt"):
             continue
