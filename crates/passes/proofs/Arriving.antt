@@ -1,5 +1,5 @@
 -- What a visit of the forward rule keeps.
-use Rattle.std.proofs.Common.{◌≡◌, ℕ, zero, suc, ◌≤◌, Bool, true, false, if◌then◌else◌, ◌⊎◌, List, ◌∷◌, replicate, ltb, Option, Some, sym, refl, subst, inl, inr, arith, leb, leb-true, ltb-true, ltb-false, IsTrue, ◌↔◌}
+use Rattle.std.proofs.Common.{◌≡◌, ℕ, zero, suc, ◌≤◌, Bool, true, false, if◌then◌else◌, ◌⊎◌, List, ◌∷◌, replicate, ltb, Some, sym, refl, subst, inl, inr, arith, leb, leb-true, ltb-true, ltb-false, IsTrue, ◌↔◌}
 use Rattle.std.proofs.lemmas.Bool.{le-leb}
 use Rattle.std.proofs.lemmas.List.{get_or_past, get_or-replicate}
 use Rattle.instructions.specs.declared.types.Instruction.{Instruction}
@@ -22,10 +22,6 @@ sound_step m m' k i v s c f t = record { truth = λ j. go j (s.origin j); start 
     go : (j : ℕ) → (arrival_at m' j ≡ arrival_at m j) ⊎ (Leads (next_of i k) j × (arrival_at m' j ≡ after_of i (arrival_at m k))) → Good c j (arrival_at m' j)
     go j (inl e) = subst (λ (x : Arrival). Good c j x) (sym e) (t.truth j)
     go j (inr p) = subst (λ (x : Arrival). Good c j x) (sym p.1) (good_step c k j i (arrival_at m k) f (follows i k j p.0) (t.truth k))
-
--- what the code's functions answer, put together
-pub spread_at : {n o : ℕ × Option ℕ} {t u : Arrival} {v : Bool} {m m' : List Arrival} → n ≡ o → t ≡ u → Spread n t v m m' → Spread o u v m m'
-spread_at {n} {o} {t} {u} {v} {m} {m'} p q s = subst (λ (x : Arrival). Spread o x v m m') q (subst (λ (x : ℕ × Option ℕ). Spread x t v m m') p s)
 
 rank_dirty : (a : Arrival) → 2 ≤ rank_of a → a ≡ arrival.Dirty
 rank_dirty arrival.Never h = absurd (omega arith)

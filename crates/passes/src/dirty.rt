@@ -1,13 +1,13 @@
 // The marks of the forward rule: the positions to which a path leads that has a ST and no barrier after it.
 ghost use Rattle.std.specs.Prelude.{◌≡◌, ℕ, ◌<◌, IsTrue, ◌↔◌};
-ghost use Rattle.grammar.specs.Listings.{party_lawful};
 ghost use Rattle.paths.specs.Paths.{Code};
 ghost use Rattle.passes.specs.Arrivals.{Arrives, SpentAt, Spread, after_of, arrival_at, lacking};
-ghost use Rattle.passes.specs.Local.{Leads};
+ghost use Rattle.passes.specs.Local.{next_of};
 ghost use Rattle.passes.specs.Marked.{DirtyMarks};
 ghost use Rattle.routine.specs.Thins.{marked};
 
-use crate::steps::{POSITIONS, is_barrier, is_store, next_of};
+use crate::code::LawfulCode;
+use crate::steps::{POSITIONS, Step, is_barrier, is_store, next_of};
 use crate::sweeps::{Marks, settle};
 use instructions::types::Instruction;
 
@@ -64,12 +64,11 @@ impl Arrivals {
         lower
     }
 
-    // Raises the arrival at each of the next positions; the answer is whether any was lower.
-    fn spread(&mut self, next: (usize, Option<usize>), to: Arrival) -> bool
-        requires { (j : ℕ) → Leads next j → j < POSITIONS }
-        ensures { Spread next to result self.old.at self.new.at }
+    // Raises the arrival at each position that is next; the answer is whether any was lower.
+    fn spread(&mut self, step: Step, to: Arrival) -> bool
+        ensures { Spread (next_of step.instruction step.k) to result self.old.at self.new.at }
     {
-        let (first, other) = next;
+        let (first, other) = next_of(step);
         let mut raised = self.raise(first, to);
         if let Some(other) = other {
             raised |= self.raise(other, to);
@@ -92,15 +91,14 @@ impl Marks for Arrivals {
 
     ghost left = { λ arrivals. lacking arrivals.at };
 
-    fn visit(&mut self, k: usize, instruction: Instruction) -> bool {
-        let to = self.at[k].after(instruction);
-        self.spread(next_of(instruction, k), to)
+    fn visit(&mut self, step: Step) -> bool {
+        let to = self.at[step.k].after(step.instruction);
+        self.spread(step, to)
     }
 }
 
 // The marks of the positions of a party's code, its end included.
-pub(crate) fn dirty(code: &[Instruction]) -> [bool; POSITIONS]
-    requires { IsTrue (party_lawful code.now) }
+pub(crate) fn dirty(code: &LawfulCode<'_>) -> [bool; POSITIONS]
     ensures { DirtyMarks code.now result }
 {
     let mut arrivals = Arrivals::from_start();

@@ -1,14 +1,13 @@
 // The marks of the backward rule: the positions from which a path with no barrier leads to where a write shows.
-ghost use Rattle.std.specs.Prelude.{◌≡◌, ℕ, ◌+◌, ◌<◌, IsTrue, length, count_by, nat_le, not};
-ghost use Rattle.grammar.specs.Listings.{party_lawful};
+ghost use Rattle.std.specs.Prelude.{◌≡◌, ℕ, ◌+◌, ◌<◌, length, count_by, nat_le, not};
 ghost use Rattle.instructions.specs.Thinning.{thin_from};
-ghost use Rattle.paths.specs.Marks.{BackwardMarks};
 ghost use Rattle.paths.specs.Rules.{BackwardOf};
 ghost use Rattle.passes.specs.Local.{Exposes, SettledAt, look};
 ghost use Rattle.passes.specs.Marked.{exposed_marks};
 ghost use Rattle.routine.specs.Thins.{marked};
 
-use crate::steps::{POSITIONS, is_barrier, is_load, next_of};
+use crate::code::LawfulCode;
+use crate::steps::{POSITIONS, Step, is_barrier, is_load, next_of};
 use crate::sweeps::{Marks, settle};
 use instructions::types::Instruction;
 use std::array;
@@ -37,14 +36,13 @@ impl Exposure {
         self.marks.get(k).is_none_or(|&mark| mark)
     }
 
-    // Whether position `k`, which has the instruction, is exposed by what is marked.
-    fn look(&self, instruction: Instruction, k: usize) -> bool
-        requires { k < POSITIONS }
-        ensures { result ≡ look instruction k self.now.marks }
+    // Whether the position is exposed by what is marked.
+    fn look(&self, step: Step) -> bool
+        ensures { result ≡ look step.instruction step.k self.now.marks }
     {
-        let (next, other) = next_of(instruction, k);
-        is_load(instruction)
-            || !is_barrier(instruction)
+        let (next, other) = next_of(step);
+        is_load(step.instruction)
+            || !is_barrier(step.instruction)
                 && (self.mark(next) || other.is_some_and(|other| self.mark(other)))
     }
 
@@ -64,29 +62,20 @@ impl Marks for Exposure {
 
     ghost left = { λ exposure. count_by not exposure.marks };
 
-    fn visit(&mut self, k: usize, instruction: Instruction) -> bool {
-        if self.marks[k] || !self.look(instruction, k) {
+    fn visit(&mut self, step: Step) -> bool {
+        if self.marks[step.k] || !self.look(step) {
             return false;
         }
-        self.marks[k] = true;
+        self.marks[step.k] = true;
         true
     }
 }
 
-// The marks of the positions of a party's code, its end included.
-fn exposed(code: &[Instruction]) -> Exposure
-    requires { IsTrue (party_lawful code.now) }
-    ensures { BackwardMarks code.now (exposed_marks result.marks) }
-{
-    let mut exposure = Exposure::from_end(code);
-    settle(&mut exposure, code);
-    exposure
-}
-
 // Marks each position after which a write can show: there a fence stays.
-pub(crate) fn exposed_after(code: &[Instruction]) -> [bool; POSITIONS]
-    requires { IsTrue (party_lawful code.now) }
+pub(crate) fn exposed_after(code: &LawfulCode<'_>) -> [bool; POSITIONS]
     ensures { BackwardOf code.now (thin_from (marked result) 0 code.now) }
 {
-    exposed(code).after()
+    let mut exposure = Exposure::from_end(code.instructions);
+    settle(&mut exposure, code);
+    exposure.after()
 }

@@ -3,6 +3,7 @@
 #![tactic(auto)]
 
 pub mod backward;
+mod code;
 mod dirty;
 mod exposed;
 pub mod forward;

@@ -1,5 +1,7 @@
 // What one instruction does to the position and to the writes that wait.
-ghost use Rattle.std.specs.Prelude.{◌≡◌, ◌<◌};
+ghost use Rattle.std.specs.Prelude.{◌≡◌, ℕ, ◌<◌};
+ghost use Rattle.paths.specs.Paths.{Follows};
+ghost use Rattle.passes.specs.declared.steps.TheConstants.{POSITIONS};
 ghost use Rattle.passes.specs.Local.{next_of, is_load, is_store, is_barrier};
 
 use instructions::types::Instruction;
@@ -7,15 +9,23 @@ use instructions::types::Instruction;
 // The positions of a party's code, the end of the longest included.
 pub(crate) const POSITIONS: usize = 33;
 
-// The position that follows `k`, and the other that can, if there is one.
-pub(crate) fn next_of(instruction: Instruction, k: usize) -> (usize, Option<usize>)
-    requires { k < POSITIONS }
-    ensures { result ≡ next_of instruction k }
+// A position and the instruction there, after which control is at one of the positions again.
+#[derive(Clone, Copy)]
+pub(crate) struct Step {
+    pub(crate) k: usize,
+    pub(crate) instruction: Instruction,
+    ghost inside: { k < POSITIONS },
+    ghost within: { (j : ℕ) → Follows instruction k j → j < POSITIONS },
+}
+
+// The position that follows, and the other that can, if there is one.
+pub(crate) fn next_of(step: Step) -> (usize, Option<usize>)
+    ensures { result ≡ next_of step.instruction step.k }
 {
-    match instruction {
-        Instruction::JumpNonzero(_, target) => (k + 1, Some(usize::from(target))),
+    match step.instruction {
+        Instruction::JumpNonzero(_, target) => (step.k + 1, Some(usize::from(target))),
         Instruction::Jump(target) => (usize::from(target), None),
-        _ => (k + 1, None),
+        _ => (step.k + 1, None),
     }
 }
 

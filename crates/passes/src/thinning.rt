@@ -1,6 +1,5 @@
 // One pass over a whole routine.
-ghost use Rattle.std.specs.Prelude.{◌≡◌, IsTrue};
-ghost use Rattle.grammar.specs.Listings.{party_lawful};
+ghost use Rattle.std.specs.Prelude.{◌≡◌};
 ghost use Rattle.instructions.specs.Thinning.{thin_from};
 ghost use Rattle.paths.specs.Rules.{TakenOut};
 ghost use Rattle.passes.specs.Passes.{RuleOf, PassedBy};
@@ -9,10 +8,10 @@ ghost use Rattle.passes.specs.declared.pass.Pass.TheVariants.{Forward, Backward}
 ghost use Rattle.routine.specs.Routines.{listing};
 ghost use Rattle.routine.specs.Thins.{marked};
 
+use crate::code::LawfulCode;
 use crate::dirty::dirty;
 use crate::exposed::exposed_after;
 use crate::steps::POSITIONS;
-use instructions::types::Instruction;
 use routine::routine::Routine;
 
 // A rule by which fences stay.
@@ -21,8 +20,7 @@ pub(crate) trait Rule {
     ghost pass: { Pass };
 
     // Marks the positions at which a fence stays.
-    fn staying(code: &[Instruction]) -> [bool; POSITIONS]
-        requires { IsTrue (party_lawful code.now) }
+    fn staying(code: &LawfulCode<'_>) -> [bool; POSITIONS]
         ensures { TakenOut (RuleOf pass code.now) code.now (thin_from (marked result) 0 code.now) };
 }
 
@@ -35,7 +33,7 @@ pub(crate) struct BackwardRule;
 impl Rule for ForwardRule {
     ghost pass = { Forward };
 
-    fn staying(code: &[Instruction]) -> [bool; POSITIONS] {
+    fn staying(code: &LawfulCode<'_>) -> [bool; POSITIONS] {
         dirty(code)
     }
 }
@@ -43,7 +41,7 @@ impl Rule for ForwardRule {
 impl Rule for BackwardRule {
     ghost pass = { Backward };
 
-    fn staying(code: &[Instruction]) -> [bool; POSITIONS] {
+    fn staying(code: &LawfulCode<'_>) -> [bool; POSITIONS] {
         exposed_after(code)
     }
 }
@@ -54,6 +52,7 @@ pub(crate) fn apply<R: Rule>(from: &Routine, into: &mut Routine)
     ensures { PassedBy R.pass (listing from.now) (listing into.new) }
 {
     for (number, party) in from.parties().iter().enumerate() {
-        into.thin(number, &R::staying(party.code()));
+        let instructions = party.code();
+        into.thin(number, &R::staying(&LawfulCode { instructions }));
     }
 }

@@ -1,4 +1,4 @@
-use Rattle.std.proofs.Common.{◌≡◌, ℕ, ◌+◌, ◌<◌, Some, sym, subst, ⊎_elim, arith}
+use Rattle.std.proofs.Common.{◌≡◌, ℕ, ◌+◌, ◌<◌, Some, length, sym, ap, subst, ⊎_elim, arith}
 use Rattle.std.proofs.lemmas.Bool.{cases_eq, or_parts}
 use Rattle.std.proofs.lemmas.Grind.{common_steps}
 use Rattle.instructions.specs.declared.types.Instruction.{Instruction}
@@ -15,21 +15,21 @@ settled_more S c {m} {m'} {n} {i} at same here below k j low f = ⊎_elim
     (λ (e : k ≡ n → ⊥). subst (λ x. S x k j) (sym same) (below k j (omega arith) f))
     (cases_eq k n)
 
-pub visit-changed-requires-clause-within : goal.visit-changed-requires-clause-within
-visit-changed-requires-clause-within g c j follows =
-    let h = lawful_within c.args.code.now c.loop-k.k j _ c.requires.lawful (fetch_at c.args.code.now c.loop-k.k _ c.loop-k-test.true) follows in
+pub invariant_of-visit-clause-within : goal.invariant_of-visit-clause-within
+invariant_of-visit-clause-within g c j follows =
+    let h = lawful_within _ c.loop-k.k j _ c.code.invariant (fetch_at c.code.inside.instructions.now c.loop-k.k _ c.loop-k-test.true) follows in
     omega arith
 
 pub loop-k-preserved : goal.loop-k-preserved
-loop-k-preserved g c = let at = fetch_at c.args.code.now c.loop-k.k _ c.loop-k-test.true in record {
-  sound = c.visit-changed.ensures.sound c.args.code.now at c.loop-k.invariant.sound;
+loop-k-preserved g c = let here = fetch_at c.code.inside.instructions.now c.loop-k.k _ c.loop-k-test.true in record {
+  sound = c.visit-changed.ensures.sound c.args.code.now (rw (← c.code.view_is) here) c.loop-k.invariant.sound;
   same = grind (arith, common_steps);
   settled = λ still.
       let parts = or_parts c.loop-k.changed c.visit-changed.result still in
-      settled_more g.M.Marks.is_settled c.args.code.now at (c.visit-changed.ensures.same parts.1) (c.visit-changed.ensures.settled parts.1) (c.loop-k.invariant.settled parts.0);
+      settled_more g.M.Marks.is_settled c.args.code.now (rw (← c.code.view_is) here) (c.visit-changed.ensures.same parts.1) (c.visit-changed.ensures.settled parts.1) (c.loop-k.invariant.settled parts.0);
   fewer = grind (arith, common_steps);
 }
 
 pub returns-clause-settled : goal.returns-clause-settled
 returns-clause-settled g c still k i at =
-    c.loop-k.invariant.settled still k i (let h = fetch_below c.args.code.now k i at in omega (arith, c.loop-k-test.false)) at
+    c.loop-k.invariant.settled still k i (let h = fetch_below c.args.code.now k i at in omega (arith, c.loop-k-test.false, ap length c.code.view_is)) at

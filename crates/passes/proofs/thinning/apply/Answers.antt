@@ -10,12 +10,12 @@ use Rattle.passes.specs.Passes.{RuleOf}
 use Rattle.passes.proofs.Applied.{partly_more, partly_all, party_lawful_lem, read_code}
 use Rattle.passes.proofs.thinning.apply.Goals as goal
 
-pub staying-requires : goal.staying-requires
-staying-requires g c =
+pub invariant_of-staying : goal.invariant_of-staying
+invariant_of-staying g c =
     let r = c.args.from.now in
     let ps = c.parties-party-items.result.now in
     let all = c.parties-party-items.ensures in
-    let e = c.code.ensures ∙ read_code ps (listing r).parties c.loop-number.number c.party-item.result all c.loop-number-test.true c.party-item.is in
+    let e = c.code-instructions.ensures ∙ read_code ps (listing r).parties c.loop-number.number c.party-item.result all c.loop-number-test.true c.party-item.is in
     ap party_lawful e ∙ party_lawful_lem (listing r) c.loop-number.number r.within_limits (omega (arith, c.loop-number-test.true, ap length all, length-map ps code_of))
 
 pub loop-number-preserved : goal.loop-number-preserved
@@ -24,7 +24,7 @@ loop-number-preserved g c =
     let r = c.args.from.now in
     let ps = c.parties-party-items.result.now in
     let all = c.parties-party-items.ensures in
-    let e = c.code.ensures ∙ read_code ps (listing r).parties c.loop-number.number c.party-item.result all c.loop-number-test.true c.party-item.is in
+    let e = c.code-instructions.ensures ∙ read_code ps (listing r).parties c.loop-number.number c.party-item.result all c.loop-number-test.true c.party-item.is in
     let marks = marked c.staying.result in
     partly_more pass (listing r) (listing c.loop-number.into) (listing c.thin.new.self) c.loop-number.number marks (omega (arith, c.loop-number-test.true, ap length all, length-map ps code_of)) c.loop-number.invariant c.thin.ensures
     (subst (λ is. TakenOut (RuleOf pass is) is (thin_from marks 0 is)) e c.staying.ensures)
