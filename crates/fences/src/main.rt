@@ -2,7 +2,6 @@
 
 #![tactic(auto)]
 
-use anyhow::anyhow;
 use files::read_up_to;
 use reports::fences::fences;
 use routine::read::LONGEST_TEXT;
@@ -13,7 +12,7 @@ const MOST_READ: usize = LONGEST_TEXT + 1;
 
 fn main(rt: HostRuntime) -> anyhow::Result<()> {
     let text = read_up_to(&rt, "routine.txt", MOST_READ)?;
-    let report = fences(rt.alloc(), &text).map_err(|_| anyhow!("no memory"))?;
+    let report = fences(rt.alloc(), &text)?;
     rt.stdout().write_all(&report)?;
     Ok(())
 }

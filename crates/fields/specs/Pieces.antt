@@ -1,11 +1,7 @@
 -- A text cut at each separator, and put together again.
 use Rattle.std.specs.Prelude.{◌≡◌, ℕ, Bool, true, not, List, ◌∷◌, ◌++◌, Some, None, Option, ◌==◌}
 use Rattle.std.specs.Borrow.{Bor}
-use Rattle.std.specs.List.{list_all, slice_split, onto_first, join_with_byte}
-
--- a byte put before the first piece
-abbrev pub on_first : ℕ → List (List ℕ) → List (List ℕ)
-on_first c fs = onto_first c fs
+use Rattle.std.specs.List.{list_all, slice_split, join_with_byte}
 
 -- the pieces between the separators: one more than there are separators
 abbrev pub pieces : ℕ → List ℕ → List (List ℕ)

@@ -14,8 +14,8 @@ pub struct Numeral {
 impl Numeral {
     ghost use Rattle.fields.specs.Numerals.{figures};
 
-    // The digits of n, from the last one on. By hand, since std writes a number into memory or to a writer
-    // that may fail, and printing wants no memory and does not fail.
+    // The digits of n, from the last one on. By hand: std writes a number into memory or to a writer that may fail,
+    // and printing wants no memory and does not fail; with the kit's `itoa` the proofs would rest on one more crate.
     fn spell(n: u32) -> Numeral
         ensures { figures result ≡ decimal n }
     {
@@ -32,7 +32,7 @@ impl Numeral {
         Numeral { digits, start }
     }
 
-    // How n is written.
+    // How n is written. Only passes on, so that a wrong number is refused at this clause and not in the loop.
     pub fn of(n: u32) -> Numeral
         ensures { figures result ≡ decimal n }
     {

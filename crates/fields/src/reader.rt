@@ -19,7 +19,8 @@ pub struct Reader<'a> {
     line: usize,
     // The bytes of the current line that are not cut yet, if a field of it is left.
     rest: Option<&'a [u8]>,
-    // Where they begin.
+    // Where they begin, as an index of the text. Apart from the line, and no `Place`: the line's number stays when no
+    // field of it is left.
     place: usize,
 
     ghost next_within: { next ≤ length text.now },

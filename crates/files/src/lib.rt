@@ -9,7 +9,7 @@ use std::io::Read;
 use std::rt::Files;
 use std::{fs, io};
 
-// Adds the first `limit` bytes of the file, or all of a shorter one: how many came.
+// Adds the first `limit` bytes of the file, or all of a shorter one.
 fn read_file<R: Files>(
     files: &R,
     path: &str,
@@ -34,6 +34,7 @@ pub fn read_up_to<R: Files + AllocGlobal>(
     if read_file(rt, path, limit, &mut bytes).is_err() {
         bytes.clear();
     }
+    // `take` has stopped there; but no contract says so of a file.
     bytes.truncate(limit);
     Ok(bytes)
 }

@@ -9,7 +9,7 @@ use fields::numbers::value_up_to;
 use fields::registers::Register;
 use fields::tokens::Token;
 
-// By their count, and no slice: a reader cuts fields off one by one, and no word takes above two.
+// By their count, and no slice: a reader cuts fields off one by one, and no word takes more than two.
 #[derive(Clone, Copy)]
 pub(crate) enum Fields<'a> {
     Zero,
@@ -128,7 +128,7 @@ impl Argument for u16 {
     }
 
     fn value(field: Token) -> Option<u16> {
-        Some(number_up_to(field, u16::MAX as u32)? as u16)
+        Some(number_up_to(field, u32::from(u16::MAX))? as u16)
     }
 }
 

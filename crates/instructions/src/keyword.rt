@@ -38,7 +38,7 @@ const KEYWORDS: [Keyword; 12] = [
 ];
 
 impl Keyword {
-    // The word, as it stands in a text: bytes, as a field has.
+    // The word, as it stands in a text: bytes, since a field is bytes.
     pub fn spelling(self) -> &'static [u8]
         ensures { result.now ≡ spelled self }
     {

@@ -91,7 +91,7 @@ impl<M: Memory> Memory for Cache<M> {
         self.below.holds(address)
     }
 
-    // A line counts only where its address is held below, so that is asked first. The address is then in its line.
+    // A line counts only where its address is held below, so that is asked first. After it the address is in its line.
     fn read(&mut self, address: u16) -> Result<u32, NotHeld> {
         if !self.holds(address) {
             return Err(NotHeld);
@@ -102,6 +102,7 @@ impl<M: Memory> Memory for Cache<M> {
         }
     }
 
+    // Only passes on, so that a bug that is planted here is refused at these clauses and not in the proofs of `store`.
     fn write(&mut self, address: u16, word: u32) -> Result<(), NotHeld> {
         self.store(address, word)
     }

@@ -30,7 +30,7 @@ impl Lines {
     }
 
     // Puts the address and its word into its line: what the line had before.
-    // The two come apart and not as a cell, as in each call of a memory.
+    // The two come apart and not as a cell, as in a write to a memory.
     pub(crate) fn replace(&mut self, address: u16, word: u32) -> Option<Cell>
         ensures before { result ≡ line_of self.old.slots address }
         ensures after { self.new.slots ≡ lined self.old.slots address word }

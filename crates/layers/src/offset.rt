@@ -19,7 +19,7 @@ impl<M: Memory> Offset<M> {
         Offset { below, distance }
     }
 
-    // The memory below, as it stands. A trait for this and the cache's would have one method, and no caller.
+    // The memory below, as it stands. A trait for both layers would have one method, and nothing takes either layer.
     pub fn into_below(self) -> M
         ensures { result ≡ self.below }
     {

@@ -23,6 +23,7 @@ pub trait Memory {
         ensures itself { reads self.old address self.new }
         ensures unchanged { OnErr result (self.new ≡ self.old) };
 
+    // The address and the word come apart and not as a cell, as a read has the address alone.
     fn write(&mut self, address: u16, word: u32) -> Result<(), NotHeld>
         ensures answer { result ≡ written (cells self.old address) }
         ensures means { cells self.new ≡ put (cells self.old) address word }

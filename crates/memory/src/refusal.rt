@@ -7,7 +7,7 @@ ghost use Rattle.memory.specs.Answers.{not_held_number};
 pub struct NotHeld;
 
 impl NotHeld {
-    // A method and not a `From`: beside a refusal, `number` says which number it is and `u8::from` would not.
+    // A method, since `u8::from` would not say which number it gives.
     pub fn number(&self) -> u8
         ensures { result ≡ not_held_number self.now }
     {

@@ -81,7 +81,7 @@ impl Sparse {
     }
 
     // Puts the word into the first cell of the address, which stands at that place.
-    // Not through `iter_mut`: a proof then knows nothing of the cells afterwards but their number.
+    // Not by `iter_mut().find(..)`: a proof then knows nothing of the cells afterwards but their number.
     #[tactic(auto, using(crate::proofs::Places::writes))]
     fn rewrite(&mut self, place: usize, address: u16, word: u32)
         requires { position (λ p. p.address == address) self.old.pairs.items ≡ Some place }

@@ -13,7 +13,7 @@ pub enum Unfit {
 }
 
 impl Unfit {
-    // A method and not a `From`: beside a refusal, `number` says which number it is and `u8::from` would not.
+    // A method, since `u8::from` would not say which number it gives. Each case has its own.
     pub fn number(&self) -> u8
         ensures { result ≡ unfit_number self.now }
     {

@@ -11,7 +11,7 @@ use crate::steps::{POSITIONS, Step, is_barrier, is_store, next_of};
 use crate::sweeps::{Marks, settle};
 use instructions::types::Instruction;
 
-// How control can arrive at a position, by the paths from the start that were found.
+// How control can arrive at a position, by the paths from the start that were found, in the order in which it is raised.
 #[derive(Clone, Copy, PartialEq, Eq, PartialOrd, Ord)]
 pub(crate) enum Arrival {
     // On no path.

@@ -29,21 +29,21 @@ impl Exposure {
         }
     }
 
-    // The mark at a position; past the last each position is marked.
-    fn mark(&self, k: usize) -> bool
+    // Whether a position is marked; past the last each is.
+    fn is_marked(&self, k: usize) -> bool
         ensures { result ≡ exposed_marks self.now.marks k }
     {
         self.marks.get(k).is_none_or(|&mark| mark)
     }
 
     // Whether the position is exposed by what is marked.
-    fn look(&self, step: Step) -> bool
+    fn is_exposed(&self, step: Step) -> bool
         ensures { result ≡ look step.instruction step.k self.now.marks }
     {
         let (next, other) = next_of(step);
         is_load(step.instruction)
             || !is_barrier(step.instruction)
-                && (self.mark(next) || other.is_some_and(|other| self.mark(other)))
+                && (self.is_marked(next) || other.is_some_and(|other| self.is_marked(other)))
     }
 
     // The marks of the positions after.
@@ -51,7 +51,7 @@ impl Exposure {
         ensures { (k : ℕ) → k < POSITIONS
             → marked result k ≡ exposed_marks self.now.marks (k + 1) }
     {
-        array::from_fn(|k| self.mark(k + 1))
+        array::from_fn(|k| self.is_marked(k + 1))
     }
 }
 
@@ -63,7 +63,7 @@ impl Marks for Exposure {
     ghost left = { λ exposure. count_by not exposure.marks };
 
     fn visit(&mut self, step: Step) -> bool {
-        if self.marks[step.k] || !self.look(step) {
+        if self.marks[step.k] || !self.is_exposed(step) {
             return false;
         }
         self.marks[step.k] = true;

@@ -16,5 +16,9 @@ pub fn forward(fresh: Fresh) -> Forward
 {
     let (original, mut routine, room) = fresh.into_copies();
     apply::<ForwardRule>(&original, &mut routine);
-    Forward::new(original, routine, room)
+    Forward {
+        original,
+        routine,
+        room,
+    }
 }

@@ -25,19 +25,6 @@ pub struct Thinned {
     ghost thinned_from: { ∥ ThinnedFrom (listing original) (listing forward) (listing routine) ∥₁ },
 }
 
-impl Forward {
-    pub(crate) fn new(original: Routine, routine: Routine, room: Room) -> Forward
-        requires { PassedBy Pass.Forward (listing original) (listing routine) }
-        ensures { (result.original ≡ original) × (result.routine ≡ routine) }
-    {
-        Forward {
-            original,
-            routine,
-            room,
-        }
-    }
-}
-
 impl Thinned {
     pub(crate) fn new(original: Routine, forward: Routine, routine: Routine) -> Thinned
         requires forward { ∥ PassedBy Pass.Forward (listing original) (listing forward) ∥₁ }

@@ -3,6 +3,7 @@ ghost use Rattle.std.specs.Prelude.{◌≡◌};
 ghost use Rattle.printing.specs.Faults.{print_code};
 
 // What is told of a refusal that stands in no line: its number, and the value that goes with it.
+// Numbers and no enum: they are what is told.
 #[derive(Clone, Copy, Debug, PartialEq, Eq)]
 pub struct RefusalCode {
     pub number: u8,

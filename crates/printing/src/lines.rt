@@ -1,7 +1,7 @@
 // The lines of a routine's text.
 ghost use Rattle.std.specs.Prelude.{◌≡◌};
 ghost use Rattle.printing.specs.Lines.{field_text, keyword_line, instruction_line, init_line, party_text};
-ghost use Rattle.printing.specs.Pages.{HasRoom, Wrote};
+ghost use Rattle.printing.specs.Pages.{EndFits, Wrote};
 
 use crate::page::Page;
 use crate::text::{Text, write_all};
@@ -26,7 +26,7 @@ impl Text for Operand {
 // Writes a line: the word and the fields.
 #[tactic(auto, using(crate::proofs::Texts::parts))]
 fn write_line(keyword: Keyword, fields: &[Operand], page: &mut Page)
-    requires { HasRoom page.old (keyword_line keyword fields.now) }
+    requires { EndFits page.old (keyword_line keyword fields.now) }
     ensures { Wrote page.old (keyword_line keyword fields.now) page.new }
 {
     page.put(keyword.spelling());

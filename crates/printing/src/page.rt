@@ -1,6 +1,6 @@
 // A lent buffer that texts are written into, one after another.
 ghost use Rattle.std.specs.Prelude.{◌≡◌};
-ghost use Rattle.printing.specs.Pages.{HasRoom, Wrote};
+ghost use Rattle.printing.specs.Pages.{EndFits, Wrote};
 
 // The next byte goes to the place `at`. A byte that has no place in the buffer is left out.
 #[derive(Drop)]
@@ -22,7 +22,7 @@ impl<'a> Page<'a> {
     // Writes the bytes, and goes on after them.
     #[tactic(auto, using(crate::proofs::Written::sets_part))]
     pub(crate) fn put(&mut self, bytes: &[u8])
-        requires { HasRoom self.old bytes.now }
+        requires { EndFits self.old bytes.now }
         ensures { Wrote self.old bytes.now self.new }
     {
         let end = self.at + bytes.len();

@@ -53,7 +53,7 @@ fn show(rt: &HostRuntime, name: &str, into: &mut Fresh) -> io::Result<()> {
     rt.println(Told { name, answer })
 }
 
-// Shows cases in order, and then whether the routine said what that one says after each of them.
+// Shows cases in order, and then whether `into` said what `kept` says after each of them.
 // Every case is shown, so a loop stands here, and not `all`, which ends at the first change.
 fn show_all(rt: &HostRuntime, names: &[&str], into: &mut Fresh, kept: &Routine) -> io::Result<()> {
     let mut same = true;

@@ -8,6 +8,7 @@ ghost use Rattle.reports.specs.Fences.{fate};
 use instructions::types::Instruction;
 use std::fmt;
 
+// A type of its own and no `Option<Pass>`, which could have no `Display` here.
 #[derive(Clone, Copy, Debug, PartialEq, Eq)]
 pub(crate) enum Fate {
     // The forward pass took it out.

@@ -5,6 +5,8 @@ ghost use Rattle.reports.specs.declared.faults.ReportFault.{ReportFault};
 
 use fields::faults::FaultCode;
 use std::alloc::AllocError;
+use std::error::Error;
+use std::fmt;
 
 // A type of its own, and not AllocError, since it has a code.
 #[derive(Clone, Copy, Debug, PartialEq, Eq)]
@@ -12,6 +14,16 @@ pub enum ReportFault {
     // There is no memory for it.
     Memory,
 }
+
+impl fmt::Display for ReportFault {
+    fn fmt<W: fmt::Write>(&self, f: &mut fmt::Formatter<W>) -> fmt::Result {
+        match self {
+            ReportFault::Memory => f.write_str("no memory"),
+        }
+    }
+}
+
+impl Error for ReportFault {}
 
 impl From<AllocError> for ReportFault {
     ghost from_gives = { λ _ r. r ≡ ReportFault.Memory };

@@ -51,7 +51,7 @@ fn code_at(parties: &[Party], party: usize) -> &[Instruction]
     parties.get(party).map(Party::code).unwrap_or_default()
 }
 
-// Adds the line of each fence of a party.
+// Adds the line of each fence of a party. By `get` and not by `zip`: so no proof has to know that the three are as long.
 fn add_party_fates(
     out: &mut String,
     party: usize,
@@ -135,6 +135,7 @@ fn routine_report(heap: Global, fresh: Fresh) -> Result<Vec<u8>, AllocError>
 pub fn fences(heap: Global, text: &[u8]) -> Result<Vec<u8>, ReportFault>
     ensures { MatchResult result (λ v. FencesPrinted text.now v.items) (λ e. e ≡ ReportFault.Memory) }
 {
+    // A new one is refused for memory alone.
     let mut fresh = Fresh::new(heap).map_err(|_| ReportFault::Memory)?;
     match read(text, &mut fresh) {
         Ok(()) => Ok(routine_report(heap, fresh)?),

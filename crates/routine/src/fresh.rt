@@ -23,24 +23,15 @@ pub struct Fresh {
 impl Fresh {
     ghost use Rattle.routine.specs.Fresh.{fresh_listing, ByGrammar};
 
-    fn build(heap: Global) -> Result<Fresh, AllocError>
-        ensures { IfOk result (λ f. fresh_listing f ≡ one_nop) }
-    {
-        let routine = Routine::one_nop(heap)?;
-        let draft = Draft::new(heap)?;
-        let spare = Routine::one_nop(heap)?;
-        Ok(Fresh {
-            routine,
-            draft,
-            spare,
-        })
-    }
-
     // The built-in routine, one party with one NOP; all the room that reading and both passes will need is taken here.
     pub fn new(heap: Global) -> Result<Fresh, RoutineFault>
         ensures { MatchResult result (λ f. fresh_listing f ≡ one_nop) (λ e. e ≡ RoutineFault.Memory) }
     {
-        let fresh = Fresh::build(heap)?;
+        let fresh = Fresh {
+            routine: Routine::one_nop(heap)?,
+            draft: Draft::new(heap)?,
+            spare: Routine::one_nop(heap)?,
+        };
         Ok(fresh)
     }
 

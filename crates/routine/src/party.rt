@@ -22,7 +22,7 @@ fn target_within(instruction: Instruction, end: usize) -> bool
     ensures { result ≡ target_within end instruction }
 {
     match instruction {
-        Instruction::JumpNonzero(_, target) | Instruction::Jump(target) => target as usize <= end,
+        Instruction::JumpNonzero(_, target) | Instruction::Jump(target) => usize::from(target) <= end,
         _ => true,
     }
 }
@@ -89,8 +89,8 @@ impl Party {
         ensures { code_of self.new ≡ thin_from (marked stays.now) 0 (code_of self.old) }
     {
         for (k, instruction) in self.code.iter_mut().enumerate() {
-            let stays = stays.get(k).copied().unwrap_or(false);
-            *instruction = thinned(*instruction, stays);
+            let stay = stays.get(k).copied().unwrap_or(false);
+            *instruction = thinned(*instruction, stay);
         }
     }
 }

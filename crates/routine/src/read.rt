@@ -10,8 +10,8 @@ use grammar::faults::RoutineFault;
 // How many bytes a text may have.
 pub const LONGEST_TEXT: usize = 8192;
 
-// Only passes on, so that a bug that is planted here is refused at these clauses and not in the proofs of `fill`.
 // Reads the text: `into` then holds the routine that it spells, or, at the first fault, the very routine that it held.
+// Only passes on, so that a bug that is planted here is refused at these clauses and not in the proofs of `fill`.
 pub fn read(text: &[u8], into: &mut Fresh) -> Result<(), RoutineFault>
     ensures reads { Joined result (read_of text.now) (fresh_listing into.new) }
     ensures stays { OnErr result (into.new.routine ≡ into.old.routine) }

@@ -8,5 +8,6 @@ pub(crate) fn refill<T: Copy>(list: &mut Vec<T>, items: &[T])
     ensures capacity { vec_capacity list.old ≤ vec_capacity list.new }
 {
     list.clear();
+    // They fit, so this cannot fail.
     let _ = list.extend_from_slice(items);
 }

@@ -1,4 +1,4 @@
-// Room for one routine of the greatest size.
+// Room for one routine of the greatest size: storage that other crates pass on and do not look into.
 use crate::storage::Storage;
 
 #[derive(Drop)]

@@ -13,7 +13,8 @@ use instructions::types::{Init, Instruction};
 use std::alloc::{AllocError, Global};
 use std::mem;
 
-// Every routine that exists keeps the limits, and knows the addresses that it names.
+// Every routine that exists keeps the limits, and knows the addresses that it names: the two facts of `IsComplete`,
+// each by its name, since other crates cite them one by one.
 #[derive(Drop)]
 pub struct Routine {
     storage: Storage,

@@ -95,7 +95,7 @@ impl Storage {
         Ok(())
     }
 
-    // One party more, with these instructions, in the room of an unused one.
+    // One party more, with these instructions, in the room of an unused one. There is one: with those in use they are four.
     pub(crate) fn add_party(&mut self, code: &[Instruction])
         requires room { length (parties_of self.old) < 4 }
         requires few { length code.now ≤ 32 }
@@ -137,7 +137,7 @@ impl Storage {
         self.addresses.note_parties(self.parties.as_slice())
     }
 
-    // Takes over what the other storage holds.
+    // What the other storage holds, in place of its own.
     pub(crate) fn copy(&mut self, other: &Storage)
         ensures listing { listing_of self.new ≡ listing_of other.now }
         ensures addresses { noted_list self.new.addresses ≡ noted_list other.now.addresses }

@@ -12,6 +12,7 @@ pub enum Call {
     Abandon(u16),
 }
 
+// One enum and no `Result`: a list of calls has a list of answers, and the theorems go by these four kinds.
 #[derive(Clone, Copy, Debug, PartialEq, Eq)]
 pub enum Reply {
     Fed,
