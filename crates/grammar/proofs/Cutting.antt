@@ -1,5 +1,5 @@
 -- Pieces put together and cut again, and the bytes that lack a separator.
-use Rattle.std.proofs.Common.{◌≡◌, ℕ, true, List, [], ◌∷◌, ◌++◌, refl, ap, ◌∙◌, arith}
+use Rattle.std.proofs.Common.{◌≡◌, ℕ, true, List, [], ◌∷◌, refl, ap, ◌∙◌, arith}
 use Rattle.std.proofs.lemmas.Bool.{and_parts, and_from}
 use Rattle.std.proofs.lemmas.Bool.Decides.{nat_tests}
 use Rattle.fields.specs.Lines.{printable, all_printable}
@@ -22,7 +22,3 @@ printable-lacks (b ∷ bs) h =
     let p = and_parts (printable b) (all_printable bs) h in
     let one : other 10 b ≡ true = grind (arith, nat_tests) in
     and_from _ _ one (printable-lacks bs p.1)
-
-pub printable-append : (xs ys : List ℕ) → all_printable xs ≡ true → all_printable ys ≡ true → all_printable (xs ++ ys) ≡ true
-printable-append [] ys h k = k
-printable-append (x ∷ xs) ys h k = let p = and_parts _ _ h in and_from _ _ p.0 (printable-append xs ys p.1 k)

@@ -29,7 +29,8 @@ use Rattle.instructions.specs.declared.types.Operand.TheVariants as operand
 use Rattle.instructions.specs.declared.types.Stage.{Stage}
 use Rattle.grammar.specs.Grammar.{LinesReadBack}
 use Rattle.grammar.specs.Listings.{operand_fits}
-use Rattle.grammar.proofs.Cutting.{AllLack, pieces-joined, printable-append}
+use Rattle.std.proofs.lemmas.List.Folds.{list_all-append}
+use Rattle.grammar.proofs.Cutting.{AllLack, pieces-joined}
 
 -- a field that stands whole in a line
 record Fine (f : List ℕ) : Type 0 where
@@ -51,7 +52,7 @@ all_some_lem (f ∷ fs) h = and_from _ _ h.0.filled (all_some_lem fs h.1)
 
 printable-joined : (f : List ℕ) (fs : List (List ℕ)) → AllFine (f ∷ fs) → all_printable (joined_by 32 (f ∷ fs)) ≡ true
 printable-joined f [] h = h.0.printing
-printable-joined f (g ∷ fs) h = printable-append f _ h.0.printing (printable-joined g fs h.1)
+printable-joined f (g ∷ fs) h = list_all-append printable f _ ∙ and_from _ _ h.0.printing (printable-joined g fs h.1)
 
 -- a field that is fine, of the kind that is asked, and of that value
 record Reads {A : Type 0} (kind : Seen → Bool) (value : Seen → Option A) (f : List ℕ) (x : A) : Type 0 where

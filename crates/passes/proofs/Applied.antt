@@ -1,9 +1,10 @@
 -- A pass party by party.
-use Rattle.std.proofs.Common.{◌≡◌, ℕ, zero, suc, ◌+◌, ◌<◌, ◌≤◌, Bool, true, List, [], ◌∷◌, map, length, get_or, sym, refl, ap, ◌∙◌, subst, ⊎_elim, arith, length-set, get_or-set_other, get_or-set_same}
+use Rattle.std.proofs.Common.{◌≡◌, ℕ, ◌+◌, ◌<◌, ◌≤◌, Bool, true, List, [], map, length, get_or, sym, refl, ap, ◌∙◌, subst, ⊎_elim, arith, length-set, get_or-set_other, get_or-set_same}
 use Rattle.std.proofs.lemmas.List.{get_or_past, get_or-map}
-use Rattle.std.proofs.lemmas.Bool.{cases_lt, cases_eq, and_parts}
+use Rattle.std.proofs.lemmas.List.Sums.{AllPass-from_list_all}
+use Rattle.std.proofs.lemmas.Bool.{cases_lt, cases_eq}
 use Rattle.instructions.specs.Thinning.{thin_from}
-use Rattle.grammar.specs.Listings.{Listing, code_at, lawful, party_lawful, parties_lawful}
+use Rattle.grammar.specs.Listings.{Listing, code_at, lawful, party_lawful}
 use Rattle.grammar.proofs.Drafts.{limits}
 use Rattle.paths.specs.Paths.{Code}
 use Rattle.paths.specs.Rules.{TakenOut}
@@ -56,13 +57,8 @@ partly_all pass l m n high so = record {
       (cases_lt p n);
 }
 
-lawful_at : (ps : List Code) (p : ℕ) → p < length ps → parties_lawful ps ≡ true → party_lawful (get_or ps p []) ≡ true
-lawful_at [] p h e = absurd (omega arith)
-lawful_at (c ∷ ps) zero h e = (and_parts _ _ e).0
-lawful_at (c ∷ ps) (suc p) h e = lawful_at ps p (omega arith) (and_parts _ _ e).1
-
 pub party_lawful_lem : (l : Listing) (p : ℕ) → lawful l ≡ true → p < length l.parties → party_lawful (code_at l p) ≡ true
-party_lawful_lem l p law h = lawful_at l.parties p h (limits l law).parties
+party_lawful_lem l p law h = AllPass-from_list_all party_lawful l.parties (limits l law).parties p [] h
 
 -- a party that was read from the slice
 pub read_code : (ps : List Party) (cs : List Code) (p : ℕ) (x : Party) → map code_of ps ≡ cs → p < length ps → x ≡ get_or ps p x → code_of x ≡ get_or cs p []

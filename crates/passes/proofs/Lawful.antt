@@ -1,18 +1,19 @@
 -- The positions of a lawful party.
-use Rattle.std.proofs.Common.{◌≡◌, ℕ, zero, suc, ◌<◌, ◌≤◌, true, [], ◌∷◌, length, Some, subst, inl, inr, arith, leb-true}
+use Rattle.std.proofs.Common.{◌≡◌, ℕ, ◌<◌, ◌≤◌, true, length, get_or, Some, subst, inl, inr, arith, leb-true}
 use Rattle.std.proofs.lemmas.Bool.{and_parts}
 use Rattle.instructions.specs.declared.types.Instruction.{Instruction}
 use Rattle.instructions.specs.declared.types.Instruction.TheVariants.{Load, Store, Exchange, Fence, Nop, Set, Add, JumpNonzero, Jump}
 use Rattle.grammar.specs.Listings.{target_within, targets_within, party_lawful}
 use Rattle.paths.specs.Paths.{Code, fetch, Follows}
-use Rattle.paths.proofs.Fetches.{fetch_below}
+use Rattle.paths.proofs.Fetches.{fetch_at, fetch_below}
+use Rattle.std.proofs.lemmas.List.Sums.{AllPass-from_list_all}
 
 target_at : (n : ℕ) (c : Code) (k : ℕ) (i : Instruction) → targets_within n c ≡ true → fetch c k ≡ Some i → target_within n i ≡ true
-target_at n [] k i e f = cc
-target_at n (x ∷ c) zero i e f =
-    let p : x ≡ i = cc in
-    subst (λ (y : Instruction). target_within n y ≡ true) p (and_parts (target_within n x) (targets_within n c) e).0
-target_at n (x ∷ c) (suc k) i e f = target_at n c k i (and_parts (target_within n x) (targets_within n c) e).1 f
+target_at n c k i e f =
+    let low = fetch_below c k i f in
+    let stands = fetch_at c k i low in
+    let is : get_or c k i ≡ i = cc in
+    subst (λ j. target_within n j ≡ true) is (AllPass-from_list_all (target_within n) c e k i low)
 
 target_follows : (n k j : ℕ) (i : Instruction) → k < n → target_within n i ≡ true → Follows i k j → j ≤ n
 target_follows n k j (Load r a) h e f = omega arith

@@ -4,7 +4,7 @@ use Rattle.instructions.specs.Thinning.{thin_from}
 use Rattle.instructions.specs.declared.types.Instruction.{Instruction}
 use Rattle.instructions.specs.declared.types.Instruction.TheVariants.{Fence, Nop}
 use Rattle.paths.specs.Paths.{Code, fetch, Follows, Barrier, StoreAt, Shows}
-use Rattle.paths.specs.Rules.{TakenOut, Shielded, Screened, BackwardOf}
+use Rattle.paths.specs.Rules.{TakenOut, Shielded, Screened, ForwardOf, BackwardOf}
 use Rattle.paths.specs.Marks.{Walk, Bare, Dirty, Exposed, ForwardMarks, BackwardMarks}
 use Rattle.paths.specs.Examples.{Case, cases, ThinsTo, Each, ExamplesHold}
 use Rattle.paths.proofs.Decided.{sure, sure_in, sure_out, both?, not?, same?, Below, below?}
@@ -79,10 +79,10 @@ Gap c = Below (length c) (λ k. (¬ Seen c k) × Leads c Clear (Seen c) k)
 abbrev gap? : (c : Code) → Dec (Gap c)
 gap? c = below? (length c) (λ k. (¬ Seen c k) × Leads c Clear (Seen c) k) (λ k. both? (not? (seen? c k)) (leads? c Clear clear? (Seen c) (seen? c) k))
 
-abbrev forward : Code → Code
+abbrev pub forward : Code → Code
 forward c = thin_from (λ k. sure (soiled? c k)) 0 c
 
-abbrev backward : Code → Code
+abbrev pub backward : Code → Code
 backward c = thin_from (λ k. sure (seen? c (suc k))) 0 c
 
 walk : (c : Code) (k : ℕ) → Reached c k → Walk c 0 k
@@ -121,20 +121,21 @@ backward_marks c n = record {
         go (no m) = absurd (n (k, fetch_below c k i f, (m, (i, f, (o, (j, w, sure_out (seen? c j) h))))))
 
 -- the marks of both passes are closed
-abbrev Closed : Code → Type 0
+abbrev pub Closed : Code → Type 0
 Closed c = (¬ Leak c Any (Reached c)) × ((¬ Leak c Clear (Soiled c)) × (¬ Gap (forward c)))
 
-abbrev closed? : (c : Code) → Dec (Closed c)
+abbrev pub closed? : (c : Code) → Dec (Closed c)
 closed? c = both? (not? (leak? c Any any? (Reached c) (reached? c))) (both? (not? (leak? c Clear clear? (Soiled c) (soiled? c))) (not? (gap? (forward c))))
 
-thins_to : (c : Case) → Closed c.code → backward (forward c.code) ≡ c.thinned → ThinsTo c
-thins_to c h e f t F T = last (rw one at T) ∙ e
+-- whatever the rules give is what the marks come to
+pub thins_to : (c d : Code) → Closed c → backward (forward c) ≡ d → (f t : Code) → ForwardOf c f → BackwardOf f t → t ≡ d
+thins_to c d h e f t F T = last (rw one at T) ∙ e
   where
-    one : f ≡ forward c.code
-    one = taken_is (Shielded c.code) _ c.code f (marks_decide.0 c.code _ _ (forward_marks c.code h.0 h.1.0)) F
+    one : f ≡ forward c
+    one = taken_is (Shielded c) _ c f (marks_decide.0 c _ _ (forward_marks c h.0 h.1.0)) F
 
-    last : BackwardOf (forward c.code) t → t ≡ backward (forward c.code)
-    last x = taken_is (λ k. Screened (forward c.code) (suc k)) _ (forward c.code) t (marks_decide.1 (forward c.code) _ (backward_marks (forward c.code) h.1.1)) x
+    last : BackwardOf (forward c) t → t ≡ backward (forward c)
+    last x = taken_is (λ k. Screened (forward c) (suc k)) _ (forward c) t (marks_decide.1 (forward c) _ (backward_marks (forward c) h.1.1)) x
 
 abbrev computed : Case → Bool × Code
 computed c = (sure (closed? c.code), backward (forward c.code))
@@ -149,7 +150,7 @@ each : (cs : List Case) → map computed cs ≡ map wanted cs → Each ThinsTo c
 each [] h = tt
 each (c ∷ cs) h =
     let e = same_heads computed wanted c cs h in
-    (thins_to c (sure_out (closed? c.code) (ap (λ x. x.0) e.0)) (ap (λ x. x.1) e.0), each cs e.1)
+    (thins_to c.code c.thinned (sure_out (closed? c.code) (ap (λ x. x.0) e.0)) (ap (λ x. x.1) e.0), each cs e.1)
 
 pub examples_hold : ExamplesHold
 examples_hold = each cases refl

@@ -125,7 +125,7 @@ too_many_more bs more e longer h =
     (cases_lt 32 (length bs))
 
 -- a loop that notes the elements of a list in turn stops where there is no room for all
-module _ {X : Type 0} (F : List X → List ℕ → List ℕ) (f : X → List ℕ → List ℕ) (stop : (seen : List ℕ) → F [] seen ≡ seen) (go : (x : X) (xs : List X) (seen : List ℕ) → F (x ∷ xs) seen ≡ F xs (f x seen)) (more : (xs : List X) (seen : List ℕ) → length seen ≤ length (F xs seen)) (xs : List X) (i : ℕ) (seen whole : List ℕ) (inv : F (drop i xs) seen ≡ whole) where
+module _ {X : Type 0} (F : List X → List ℕ → List ℕ) (f : X → List ℕ → List ℕ) (go : (x : X) (xs : List X) (seen : List ℕ) → F (x ∷ xs) seen ≡ F xs (f x seen)) (more : (xs : List X) (seen : List ℕ) → length seen ≤ length (F xs seen)) (xs : List X) (i : ℕ) (seen whole : List ℕ) (inv : F (drop i xs) seen ≡ whole) where
   fold_step : (d : X) → i < length xs → F (drop (i + 1) xs) (f (get_or xs i d) seen) ≡ whole
   fold_step d h = sym (at_drop_more (λ ys. F ys seen) xs i d h ∙ go (get_or xs i d) (drop (i + 1) xs) seen) ∙ inv
 

@@ -22,7 +22,8 @@ fn target_within(instruction: Instruction, end: usize) -> bool
     ensures { result ≡ target_within end instruction }
 {
     match instruction {
-        Instruction::JumpNonzero(_, target) | Instruction::Jump(target) => usize::from(target) <= end,
+        Instruction::JumpNonzero(_, target) | Instruction::Jump(target) => usize::from(target)
+            <= end,
         _ => true,
     }
 }

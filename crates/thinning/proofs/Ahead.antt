@@ -67,7 +67,7 @@ silent_exchanged (Jump t) p x q = refl
 -- no step ahead
 pub ahead_none : {n : ℕ} {c : Code} {o t : Party} (ks : List ℕ) → length ks ≡ 0 → Ahead n c ks o t → o ≡ t
 ahead_none [] e level = refl
-ahead_none (k ∷ ks) e a = absurd (omega arith)
+ahead_none (k ∷ ks) e a = cc
 
 -- one step more
 pub ahead_snoc : {n : ℕ} {c : Code} {ks : List ℕ} {o t : Party} → Ahead n c ks o t → (i : Instruction) → Silent i → fetch c t.position ≡ Some i → step_fault n i t ≡ None
@@ -87,7 +87,7 @@ pub record First (n : ℕ) (c : Code) (m : ℕ) (all-ks : List ℕ) (o t : Party
   pub ahead : Ahead n c ks (stepped i o nothing_held) t
 
 pub first : {n : ℕ} {c : Code} {o t : Party} {m : ℕ} (ks : List ℕ) → length ks ≡ suc m → Ahead n c ks o t → First n c m ks o t
-first [] e level = absurd (omega arith)
+first [] e level = cc
 first (k ∷ ks) e (more i q z f b r) = record { ks = ks; all = ap {B = List ℕ} (λ x. x ∷ ks) z; late = omega arith; i = i; silent = q; at = f; free = b; ahead = r }
 
 -- a silent step and a drain of the same party may change places
@@ -105,7 +105,7 @@ room_below k n h = go (ltb k n) refl h
   where
     go : (b : Bool) → ltb k n ≡ b → cond {A = Option EntryFault} b None (Some BufferFull) ≡ None → k < n
     go true e h = ltb-true k n e
-    go false e h = let z : ◌≡◌ {A = ℕ} 0 1 = cc in absurd (omega arith)
+    go false e h = cc
 
 room_fewer : (k n : ℕ) → room (suc k) n ≡ None → room k n ≡ None
 room_fewer k n h = let l : k < n = omega (arith, room_below (suc k) n h) in cond-true _ _ _ (lt-ltb k n l)

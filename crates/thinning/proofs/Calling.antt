@@ -80,9 +80,9 @@ closed_drained o t i d = go d.control.running (eqb i d.control.number) (drained_
   where
     go : (a b c : Bool) → (ends_by Closed d a b c).reply ≡ Closed → c ≡ true
     go true true true h = refl
-    go true true false h = let z : ◌≡◌ {A = ℕ} 0 1 = cc in absurd (omega arith)
-    go true false c h = let z : ◌≡◌ {A = ℕ} 0 1 = cc in absurd (omega arith)
-    go false b c h = let z : ◌≡◌ {A = ℕ} 0 1 = cc in absurd (omega arith)
+    go true true false h = cc
+    go true false c h = cc
+    go false b c h = cc
 
 -- a party that the routine lacks stays as it was
 beyond_apart : (l : Listing) (p q : ℕ) → ltb q (length l.parties) ≡ true → ltb p (length l.parties) ≡ false → p ≡ q → ⊥
@@ -97,13 +97,13 @@ beyond_runs l [] s u p h away = let e : s ≡ u = cc in ap (λ (x : State). x.pa
 beyond_runs l (e ∷ es) s u p h away = go (λ y. beyond_runs l es y u p) (next l e s) refl
   where
     go : ((y : State) → runs l es y ≡ Some u → ltb p (length l.parties) ≡ false → u.party p ≡ y.party p) → (x : Turn) → next l e s ≡ x → u.party p ≡ s.party p
-    go ih (refused c) q = let z : ◌≡◌ {A = ℕ} 0 1 = cc in absurd (omega arith)
+    go ih (refused c) q = cc
     go ih (moved y) q = let k : runs l es y ≡ Some u = cc in ih y k away ∙ beyond_next l e s y p q away
 
 -- the test of a close, party by party
 empty_is : (ws : List Write) → is_empty ws ≡ true → ws ≡ []
 empty_is [] h = refl
-empty_is (w ∷ ws) h = let z : ◌≡◌ {A = ℕ} 0 1 = cc in absurd (omega arith)
+empty_is (w ∷ ws) h = cc
 
 none_waits_at : (n i : ℕ) (g : ℕ → Party) → i < n → none_waits n g ≡ true → (g i).buffer ≡ []
 none_waits_at zero i g h e = absurd (omega arith)

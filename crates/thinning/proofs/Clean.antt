@@ -1,5 +1,5 @@
 -- Where a write can wait, and where a party that is ahead can be.
-use Rattle.std.proofs.Common.{◌≡◌, ℕ, suc, Bool, true, false, cond, eqb, ◌⊎◌, List, ◌∷◌, Some, None, Option, sym, refl, ◌∙◌, subst, inl, inr, arith}
+use Rattle.std.proofs.Common.{◌≡◌, ℕ, suc, Bool, true, false, cond, eqb, ◌⊎◌, List, ◌∷◌, Some, None, sym, refl, ◌∙◌, subst, inl, inr}
 use Rattle.fields.specs.declared.registers.Register.{Register}
 use Rattle.instructions.specs.declared.types.Instruction.{Instruction}
 use Rattle.instructions.specs.declared.types.Instruction.TheVariants.{Load, Store, Exchange, Fence, Nop, Set, Add, JumpNonzero, Jump}
@@ -7,8 +7,6 @@ use Rattle.memory.specs.Cells.{Cells}
 use Rattle.paths.specs.Paths.{Code, fetch, Follows, Barrier, Shows}
 use Rattle.paths.specs.Marks.{Walk, Bare, Dirty, Exposed}
 use Rattle.tso.specs.Machine.{Party, is_empty, stepped, step_fault, drained}
-use Rattle.tso.specs.declared.faults.EntryFault.{EntryFault}
-use Rattle.tso.specs.declared.faults.EntryFault.TheVariants.{BufferNotEmpty}
 use Rattle.tso.specs.declared.writes.Write.{Write}
 use Rattle.thinning.proofs.Ahead.{Silent}
 use Rattle.thinning.proofs.Positions.{Passed}
@@ -44,15 +42,12 @@ pub record OnPath (c : Code) (o : Party) : Type 0 where
 dirty_on : {c : Code} {k j : ℕ} → Dirty c k → (i : Instruction) → fetch c k ≡ Some i → ¬ Barrier i → Follows i k j → Dirty c j
 dirty_on d i f n g = record { from = d.from; address = d.address; source = d.source; reach = d.reach; store = d.store; clear = bare_snoc d.clear i f n g }
 
-pub no_both : {P : Type 0} (b : Bool) → cond {A = Option EntryFault} b None (Some BufferNotEmpty) ≡ None → b ≡ false → P
-no_both b p q = let z : ◌≡◌ {A = ℕ} 23 0 = cc in absurd (omega arith)
-
 dirty_step : (n : ℕ) (c : Code) (o : Party) (i : Instruction) (m : Cells) → OnPath c o → fetch c o.position ≡ Some i → step_fault n i o ≡ None
     → is_empty (stepped i o m).buffer ≡ false → Dirty c (stepped i o m).position
 dirty_step n c o (Load r a) m s f b e = dirty_on (s.dirty e) (Load r a) f (λ x. x) refl
 dirty_step n c o (Store a v) m s f b e = record { from = o.position; address = a; source = v; reach = s.reach; store = f; clear = Bare.here }
-dirty_step n c o (Exchange r a) m s f b e = no_both (is_empty o.buffer) b e
-dirty_step n c o Fence m s f b e = no_both (is_empty o.buffer) b e
+dirty_step n c o (Exchange r a) m s f b e = cc
+dirty_step n c o Fence m s f b e = cc
 dirty_step n c o Nop m s f b e = dirty_on (s.dirty e) Nop f (λ x. x) refl
 dirty_step n c o (Set r v) m s f b e = dirty_on (s.dirty e) (Set r v) f (λ x. x) refl
 dirty_step n c o (Add r v) m s f b e = dirty_on (s.dirty e) (Add r v) f (λ x. x) refl
@@ -95,11 +90,11 @@ load_exposed f t h k r a e = go (h k)
   where
     go : Passed (fetch f k) (fetch t k) (Exposed f (suc k)) → Exposed f k
     go (inl x) = record { last = k; clear = Bare.here; shows = Shows.load r a (sym x ∙ e) }
-    go (inr x) = let z : ◌≡◌ {A = ℕ} 0 1 = cc in absurd (omega arith)
+    go (inr x) = cc
 
 -- a fence that the original waits at and the thinned party passes was taken out by the backward rule
 pub hidden_start : (o f t : Code) (k : ℕ) → Passed (fetch o k) (fetch f k) (Dirty o k) → Passed (fetch f k) (fetch t k) (Exposed f (suc k)) → fetch o k ≡ Some Fence → fetch t k ≡ Some Nop → Dirty o k → ¬ Exposed f (suc k)
-hidden_start o f t k (inl x) (inl y) a b d = let z : ◌≡◌ {A = ℕ} 0 1 = cc in absurd (omega arith)
+hidden_start o f t k (inl x) (inl y) a b d = cc
 hidden_start o f t k (inl x) (inr y) a b d = y.2
 hidden_start o f t k (inr x) y a b d = absurd (x.2 d)
 
@@ -107,8 +102,8 @@ hidden_start o f t k (inr x) y a b d = absurd (x.2 d)
 pub silent_or_load : (n : ℕ) (i : Instruction) (x : Party) → step_fault n i x ≡ None → is_empty x.buffer ≡ false → Silent i ⊎ ((r : Register) × (a : ℕ) × (i ≡ Load r a))
 silent_or_load n (Load r a) x b e = inr (r, a, refl)
 silent_or_load n (Store a s) x b e = inl tt
-silent_or_load n (Exchange r a) x b e = no_both (is_empty x.buffer) b e
-silent_or_load n Fence x b e = no_both (is_empty x.buffer) b e
+silent_or_load n (Exchange r a) x b e = cc
+silent_or_load n Fence x b e = cc
 silent_or_load n Nop x b e = inl tt
 silent_or_load n (Set r s) x b e = inl tt
 silent_or_load n (Add r s) x b e = inl tt

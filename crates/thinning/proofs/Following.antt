@@ -16,7 +16,7 @@ use Rattle.tso.specs.Openings.{Holds}
 use Rattle.tso.specs.Outcomes.{after, restricted}
 use Rattle.tso.specs.declared.faults.EntryFault.{EntryFault}
 use Rattle.tso.specs.declared.writes.Write.{Write}
-use Rattle.tso.proofs.Turns.{Stepped, Drained, not_moved, step_made, step_inverse, drain_made, drain_inverse, updated_others}
+use Rattle.tso.proofs.Turns.{Stepped, Drained, step_made, step_inverse, drain_made, drain_inverse, updated_others}
 use Rattle.tso.proofs.Restriction.{openings_alike}
 use Rattle.thinning.specs.Pairs.{Pair, Followed, paired, caught_up, followed, joined, follow, taken, fed}
 use Rattle.thinning.proofs.Updates.{same_or_not, updated_same, updated-other, updated_value, updated-twice}
@@ -37,7 +37,7 @@ pub record Linked (o f t : Listing) (m n : Cells) (d : Pair) : Type 0 where
   pub waits : (q : ℕ) → Waits d q
 
 pub waiting_of : (l : List Write) → is_empty l ≡ false → (x : Write) × (xs : List Write) × (l ≡ x ∷ xs)
-waiting_of [] e = let z : ◌≡◌ {A = ℕ} 0 1 = cc in absurd (omega arith)
+waiting_of [] e = cc
 waiting_of (x ∷ xs) e = (x, xs, refl)
 
 -- the original refuses a step that the thinned side could make: it is at a fence, and a write waits
@@ -48,11 +48,11 @@ record AtFence (l : Listing) (p : ℕ) (s : State) (i : Instruction) : Type 0 wh
 
 at_fence : (l : Listing) (p : ℕ) (s : State) (b : Option Instruction) (i : Instruction) (c : EntryFault) → ltb p (length l.parties) ≡ true → Alike (fetch (code_at l p) (s.party p).position) b → b ≡ Some i
     → step_fault (depth_of l) i (s.party p) ≡ None → next l (Step p) s ≡ refused c → AtFence l p s i
-at_fence l p s b i c h (inl e) a k r = not_moved c _ (sym r ∙ step_made l p s i h (sym e ∙ a) k)
+at_fence l p s b i c h (inl e) a k r = let made = step_made l p s i h (sym e ∙ a) k in cc
 at_fence l p s b i c h (inr e) a k r = go (is_empty (s.party p).buffer) refl
   where
     go : (y : Bool) → is_empty (s.party p).buffer ≡ y → AtFence l p s i
-    go true q = not_moved c _ (sym r ∙ step_made l p s Fence h e.0 (cc))
+    go true q = let made = step_made l p s Fence h e.0 (cc) in cc
     go false q = record { fence = e.0; nop = cc; waits = q }
 
 -- the pair with what the original made up for a party
@@ -198,10 +198,10 @@ module _ {o f t : Listing} (th : ThinnedFrom o f t) (m n : Cells) where
       A = drain_inverse t p d.thinned u ht
 
       go : (k : ℕ) → d.behind p ≡ k → Linked o f t m n (joined (Drain p) u d (caught_up o p (d.behind p) (after d.original (refused c)) (d.tape ++ (Drain p ∷ []))))
-      go zero z = not_moved c _ (sym ho ∙ drain_made o p d.original A.w A.ws (on_original p A.here) (rw (tie_level (g.tied.tie p) z) A.buffer_is))
+      go zero z = let made = drain_made o p d.original A.w A.ws (on_original p A.here) (rw (tie_level (g.tied.tie p) z) A.buffer_is) in cc
       go (suc k) z =
           let l = waiting_of (d.original.party p).buffer (g.waits p (omega arith)) in
-          not_moved c _ (sym ho ∙ drain_made o p d.original l.0 l.1 (on_original p A.here) l.2)
+          let made = drain_made o p d.original l.0 l.1 (on_original p A.here) l.2 in cc
   drain_linked d p u g ht (moved v) ho =
       catch_up p (d.behind p) (pair_of u v (d.tape ++ (Drain p ∷ [])) (d.accepted ++ (Drain p ∷ [])) d.behind)
       (on_original p (drain_inverse t p d.thinned u ht).here)
@@ -237,7 +237,7 @@ module _ {o f t : Listing} (th : ThinnedFrom o f t) (m n : Cells) where
             ks = [];
             late = refl;
             ahead = level;
-            on_path = record { reach = Walk.here; dirty = λ e. let z : ◌≡◌ {A = ℕ} 0 1 = cc in absurd (omega arith) };
+            on_path = record { reach = Walk.here; dirty = λ e. cc };
             hidden = λ h. absurd (omega arith);
             steps = refl;
           };

@@ -47,5 +47,5 @@ runs_front l (suc k) [] s u h = (s, refl)
 runs_front l (suc k) (e ∷ es) s u h = go (λ y. runs_front l k es y u) (next l e s) refl
   where
     go : ((y : State) → runs l es y ≡ Some u → (v : State) × (runs l (take k es) y ≡ Some v)) → (t : Turn) → next l e s ≡ t → (v : State) × (runs l (take (suc k) (e ∷ es)) s ≡ Some v)
-    go ih (refused c) q = let z : ◌≡◌ {A = ℕ} 0 1 = cc in absurd (omega arith)
+    go ih (refused c) q = cc
     go ih (moved y) q = let b : runs l es y ≡ Some u = cc in let x = ih y b in let c = x.1 in (x.0, cc)

@@ -1,5 +1,5 @@
 -- What an order does over one memory it does over every other that holds the routine's addresses.
-use Rattle.std.proofs.Common.{◌≡◌, ℕ, List, take, Some, None, Option, sym, refl, ap, ◌∙◌, arith}
+use Rattle.std.proofs.Common.{◌≡◌, ℕ, List, take, Some, None, Option, sym, refl, ap, ◌∙◌}
 use Rattle.grammar.specs.Listings.{Listing, addresses_of}
 use Rattle.memory.specs.Cells.{Cells}
 use Rattle.orders.specs.declared.entries.Entry.{Entry}
@@ -34,7 +34,7 @@ runs-over l f g hf hg es u h = go (runs l es (opening l g)) refl
     same = sym (runs-restricted l es (opening l g)) ∙ ap (runs l es) (openings_alike l g f hg hf) ∙ runs-restricted l es (opening l f) ∙ ap (restricted_end l) h
 
     go : (x : Option State) → runs l es (opening l g) ≡ x → (v : State) × AcceptsTo l g es v × Agree l u v
-    go None e = let a : restricted_end l None ≡ Some (restricted l u) = ap (restricted_end l) (sym e) ∙ same in let z : ◌≡◌ {A = ℕ} 0 1 = cc in absurd (omega arith)
+    go None e = let a : restricted_end l None ≡ Some (restricted l u) = ap (restricted_end l) (sym e) ∙ same in cc
     go (Some v) e =
         let a : restricted_end l (Some v) ≡ Some (restricted l u) = ap (restricted_end l) (sym e) ∙ same in
         let b : restricted l u ≡ restricted l v = cc in

@@ -8,7 +8,7 @@ use Rattle.paths.specs.Paths.{Code, fetch}
 use Rattle.paths.specs.Rules.{TakenOut}
 use Rattle.paths.specs.Marks.{Dirty, Exposed}
 use Rattle.paths.proofs.Decided.{change?}
-use Rattle.paths.proofs.Standing.{tag, at?, fence_at?}
+use Rattle.paths.proofs.Standing.{at?, fence_at?}
 use Rattle.paths.proofs.Roads.{shielded_is, screened_is}
 use Rattle.passes.specs.Passes.{PassedBy, ThinnedFrom}
 use Rattle.passes.specs.declared.pass.Pass.{Pass}
@@ -16,15 +16,15 @@ use Rattle.tso.specs.Machine.{depth_of}
 use Rattle.tso.specs.Openings.{opening}
 
 nop? : (i : Instruction) → Dec (i ≡ Nop)
-nop? (Load r a) = no (λ x. let e = ap tag x in omega arith)
-nop? (Store a s) = no (λ x. let e = ap tag x in omega arith)
-nop? (Exchange r a) = no (λ x. let e = ap tag x in omega arith)
-nop? Fence = no (λ x. let e = ap tag x in omega arith)
+nop? (Load r a) = no (λ x. cc)
+nop? (Store a s) = no (λ x. cc)
+nop? (Exchange r a) = no (λ x. cc)
+nop? Fence = no (λ x. cc)
 nop? Nop = yes refl
-nop? (Set r s) = no (λ x. let e = ap tag x in omega arith)
-nop? (Add r s) = no (λ x. let e = ap tag x in omega arith)
-nop? (JumpNonzero r t) = no (λ x. let e = ap tag x in omega arith)
-nop? (Jump t) = no (λ x. let e = ap tag x in omega arith)
+nop? (Set r s) = no (λ x. cc)
+nop? (Add r s) = no (λ x. cc)
+nop? (JumpNonzero r t) = no (λ x. cc)
+nop? (Jump t) = no (λ x. cc)
 
 nop_at? : (c : Code) (k : ℕ) → Dec (fetch c k ≡ Some Nop)
 nop_at? c k = change? (λ x. x.1 ∙ ap {B = Option Instruction} Some x.2) (λ e. (Nop, e, refl)) (at? c (λ i. i ≡ Nop) nop? k)
@@ -58,15 +58,15 @@ addresses_at (Some i) = address_in i
 
 noted_alike : (c d : Code) → length d ≡ length c → ((k : ℕ) → addresses_at (fetch d k) ≡ addresses_at (fetch c k)) → (seen : List ℕ) → noted_code d seen ≡ noted_code c seen
 noted_alike [] [] h e seen = refl
-noted_alike [] (j ∷ d) h e seen = absurd (omega arith)
-noted_alike (i ∷ c) [] h e seen = absurd (omega arith)
+noted_alike [] (j ∷ d) h e seen = cc
+noted_alike (i ∷ c) [] h e seen = cc
 noted_alike (i ∷ c) (j ∷ d) h e seen =
     noted_alike c d (omega arith) (λ k. e (suc k)) (noted_in (address_in j) seen) ∙ ap (λ (ks : List ℕ). noted_code c (noted_in ks seen)) (e 0)
 
 noted_each : (ps qs : List Code) → length qs ≡ length ps → ((p : ℕ) (seen : List ℕ) → noted_code (get_or qs p []) seen ≡ noted_code (get_or ps p []) seen) → (seen : List ℕ) → noted_parties qs seen ≡ noted_parties ps seen
 noted_each [] [] h e seen = refl
-noted_each [] (d ∷ qs) h e seen = absurd (omega arith)
-noted_each (c ∷ ps) [] h e seen = absurd (omega arith)
+noted_each [] (d ∷ qs) h e seen = cc
+noted_each (c ∷ ps) [] h e seen = cc
 noted_each (c ∷ ps) (d ∷ qs) h e seen = noted_each ps qs (omega arith) (λ p. e (suc p)) (noted_code d seen) ∙ ap (noted_parties ps) (e 0 seen)
 
 addresses_at_lem : {a b : Option Instruction} {P : Type 0} → Passed a b P → addresses_at b ≡ addresses_at a

@@ -64,7 +64,7 @@ all_fed o t (e ∷ es) d u h = go (λ d'. all_fed o t es d' u) (next t e d.thinn
   where
     go : ((d' : Pair) → runs t es d'.thinned ≡ Some u → ((fed_all o t es d').thinned ≡ u) × ((fed_all o t es d').accepted ≡ d'.accepted ++ es))
         → (y : Turn) → next t e d.thinned ≡ y → ((fed_all o t (e ∷ es) d).thinned ≡ u) × ((fed_all o t (e ∷ es) d).accepted ≡ d.accepted ++ (e ∷ es))
-    go ih (refused c) q = let z : ◌≡◌ {A = ℕ} 0 1 = cc in absurd (omega arith)
+    go ih (refused c) q = cc
     go ih (moved y) q =
         let k : runs t es y ≡ Some u = cc in
         let x = ih (follow o e y d) k in

@@ -1,5 +1,5 @@
 -- What ties the two sides of a double run together, and what a party of it can say.
-use Rattle.std.proofs.Common.{◌≡◌, ℕ, ◌+◌, ◌<◌, false, eqb, List, [], ◌∷◌, ◌++◌, length, Some, Option, sym, refl, ap, ◌∙◌, inl, inr, append-nil, arith}
+use Rattle.std.proofs.Common.{◌≡◌, ℕ, ◌+◌, ◌<◌, false, eqb, List, [], ◌∷◌, ◌++◌, length, Some, Option, sym, refl, ap, ◌∙◌, inl, inr, append-nil}
 use mathlib.Core.Path.{transport}
 use Rattle.instructions.specs.declared.types.Instruction.{Instruction}
 use Rattle.instructions.specs.declared.types.Instruction.TheVariants.{Fence, Nop}
@@ -76,7 +76,7 @@ tie_level v e = ahead_none v.ks (v.late ∙ e) v.ahead
 
 no_more : (ks a : List ℕ) → length ks ≡ 0 → a ++ ks ≡ a
 no_more [] a e = append-nil a
-no_more (k ∷ ks) a e = absurd (omega arith)
+no_more (k ∷ ks) a e = cc
 
 pub tie_steps : {depth : ℕ} {o f t : Code} {n : ℕ} {x y : Party} {a b : List ℕ} → Tie depth o f t n x y a b → n ≡ 0 → b ≡ a
 tie_steps {a = a} v e = v.steps ∙ no_more v.ks a (v.late ∙ e)

@@ -1,5 +1,5 @@
 -- The addresses that a routine's lines name are among its addresses.
-use Rattle.std.proofs.Common.{◌≡◌, ℕ, zero, suc, Bool, true, false, cond, ◌||◌, eqb, ltb, ◌⊎◌, List, [], ◌∷◌, get_or, Some, sym, refl, subst, inl, inr, ⊎_elim, arith}
+use Rattle.std.proofs.Common.{◌≡◌, ℕ, zero, suc, Bool, true, false, cond, ◌||◌, eqb, ltb, ◌⊎◌, List, [], ◌∷◌, get_or, Some, sym, refl, subst, inl, inr, ⊎_elim}
 use Rattle.std.proofs.lemmas.Bool.{eq-eqb, eqb-true, or_left, or_right, or_cases}
 use Rattle.instructions.specs.declared.types.Init.{Init}
 use Rattle.instructions.specs.declared.types.Instruction.{Instruction}
@@ -12,9 +12,6 @@ or_more : (b x y : Bool) → (x ≡ true → y ≡ true) → (b || x) ≡ true �
 or_more true x y f h = refl
 or_more false x y f h = f h
 
-pub not_in_none : {P : Type 0} → false ≡ true → P
-not_in_none h = let z : ◌≡◌ {A = ℕ} 0 1 = cc in absurd (omega arith)
-
 noted_has : (a : ℕ) (xs : List ℕ) → member a (noted a xs) ≡ true
 noted_has a [] = or_left (eqb a a) false (eq-eqb a a refl)
 noted_has a (b ∷ bs) = go (noted_has a bs) (ltb a b) (eqb a b) refl
@@ -25,7 +22,7 @@ noted_has a (b ∷ bs) = go (noted_has a bs) (ltb a b) (eqb a b) refl
     go ih false false e = or_right (eqb a b) (member a (noted a bs)) ih
 
 noted_keeps : (a k : ℕ) (xs : List ℕ) → member k xs ≡ true → member k (noted a xs) ≡ true
-noted_keeps a k [] h = not_in_none h
+noted_keeps a k [] h = cc
 noted_keeps a k (b ∷ bs) h = go (noted_keeps a k bs) (ltb a b) (eqb a b)
   where
     go : (member k bs ≡ true → member k (noted a bs) ≡ true) → (c d : Bool) → member k (cond c (a ∷ (b ∷ bs)) (cond d (b ∷ bs) (b ∷ noted a bs))) ≡ true
@@ -52,7 +49,7 @@ noted_parties_keeps k (p ∷ ps) xs h = noted_parties_keeps k ps (noted_code p x
 
 -- and what is named is noted
 noted_in_has : (k : ℕ) (ns xs : List ℕ) → member k ns ≡ true → member k (noted_in ns xs) ≡ true
-noted_in_has k [] xs h = not_in_none h
+noted_in_has k [] xs h = cc
 noted_in_has k (a ∷ ns) xs h = go (noted_in_has k ns (noted a xs)) (eqb k a) refl h
   where
     go : (member k ns ≡ true → member k (noted_in ns (noted a xs)) ≡ true) → (b : Bool) → eqb k a ≡ b → (b || member k ns) ≡ true → member k (noted_in ns (noted a xs)) ≡ true
@@ -60,12 +57,12 @@ noted_in_has k (a ∷ ns) xs h = go (noted_in_has k ns (noted a xs)) (eqb k a) r
     go ih false e h = ih h
 
 noted_code_has : (k : ℕ) (is : List Instruction) (n : ℕ) (i : Instruction) (xs : List ℕ) → fetch is n ≡ Some i → member k (address_in i) ≡ true → member k (noted_code is xs) ≡ true
-noted_code_has k [] n i xs e h = let z : ◌≡◌ {A = ℕ} 0 1 = cc in absurd (omega arith)
+noted_code_has k [] n i xs e h = cc
 noted_code_has k (j ∷ is) zero i xs e h = noted_code_keeps k is (noted_in (address_in j) xs) (noted_in_has k (address_in j) xs (let q : i ≡ j = cc in rw q at h))
 noted_code_has k (j ∷ is) (suc n) i xs e h = noted_code_has k is n i (noted_in (address_in j) xs) e h
 
 noted_parties_has : (k : ℕ) (ps : List (List Instruction)) (p n : ℕ) (i : Instruction) (xs : List ℕ) → fetch (get_or ps p []) n ≡ Some i → member k (address_in i) ≡ true → member k (noted_parties ps xs) ≡ true
-noted_parties_has k [] p n i xs e h = let z : ◌≡◌ {A = ℕ} 0 1 = cc in absurd (omega arith)
+noted_parties_has k [] p n i xs e h = cc
 noted_parties_has k (c ∷ ps) zero n i xs e h = noted_parties_keeps k ps (noted_code c xs) (noted_code_has k c n i xs e h)
 noted_parties_has k (c ∷ ps) (suc p) n i xs e h = noted_parties_has k ps p n i (noted_code c xs) e h
 
@@ -168,7 +165,7 @@ addresses_are_named l a = (λ m. in_parties_lem (noted_parties_only a l.parties 
   where
     in_inits : InInits a l.inits ⊎ (false ≡ true) → Names l a
     in_inits (inl h) = by_init h
-    in_inits (inr e) = not_in_none e
+    in_inits (inr e) = cc
 
     in_parties_lem : InParties a l.parties ⊎ (member a (noted_inits l.inits []) ≡ true) → Names l a
     in_parties_lem (inl x) = by_instruction x.party x.code.position x.code.i x.code.at x.code.has

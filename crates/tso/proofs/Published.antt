@@ -1,5 +1,5 @@
 -- The machine moves as x86-TSO does.
-use Rattle.std.proofs.Common.{◌≡◌, ℕ, suc, ◌+◌, ◌%◌, ◌^◌, ◌<◌, Bool, true, false, cond, eqb, ltb, ◌⊎◌, List, [], ◌∷◌, ◌++◌, length, Some, None, Option, sym, refl, ap, ◌∙◌, subst, inl, inr, arith}
+use Rattle.std.proofs.Common.{◌≡◌, ℕ, suc, ◌+◌, ◌%◌, ◌^◌, ◌<◌, Bool, true, false, cond, eqb, ltb, ◌⊎◌, List, [], ◌∷◌, ◌++◌, length, Some, None, Option, sym, refl, ap, ◌∙◌, subst, inl, inr}
 use mathlib.Core.Path.{fun_ext}
 use Rattle.std.proofs.lemmas.Bool.{eq-eqb, ne_eqb, eqb-true, eqb-false, lt-ltb, ltb-true, cases_eq}
 use Rattle.fields.specs.declared.registers.Register.{Register}
@@ -16,26 +16,25 @@ use Rattle.tso.specs.Machine.{Party, State, moved, depth_of, updated, same_regis
 use Rattle.tso.specs.Tso.{Storage, Thread, Label, reads, writes, exchanges, fences, drains, silent, NotPending, Becomes, Tso, read_from_memory, read_from_write_buffer, write_to_write_buffer, write_from_write_buffer_to_memory, barrier, locked_exchange, no_storage, HasValue, Gets, Performs, load, store, exchange, fence, nop, set, add, jump_nonzero, jump_zero, jump, storage_of, thread_of, Transition, step, drain, MovesAsTso, Execution, done, more, RunsAsTso}
 use Rattle.tso.specs.declared.faults.EntryFault.TheVariants.{BufferFull, BufferNotEmpty}
 use Rattle.tso.specs.declared.writes.Write.{Write}
-use Rattle.tso.proofs.Addresses.{not_in_none}
 use Rattle.tso.proofs.Turns.{step_made, step_inverse, drain_made, drain_inverse, updated_own, updated_others}
 
 -- registers and operands
 same_true : (q r : Register) → same_register q r ≡ true → q ≡ r
 same_true A A e = refl
-same_true A B e = not_in_none e
-same_true A C e = not_in_none e
-same_true A D e = not_in_none e
-same_true B A e = not_in_none e
+same_true A B e = cc
+same_true A C e = cc
+same_true A D e = cc
+same_true B A e = cc
 same_true B B e = refl
-same_true B C e = not_in_none e
-same_true B D e = not_in_none e
-same_true C A e = not_in_none e
-same_true C B e = not_in_none e
+same_true B C e = cc
+same_true B D e = cc
+same_true C A e = cc
+same_true C B e = cc
 same_true C C e = refl
-same_true C D e = not_in_none e
-same_true D A e = not_in_none e
-same_true D B e = not_in_none e
-same_true D C e = not_in_none e
+same_true C D e = cc
+same_true D A e = cc
+same_true D B e = cc
+same_true D C e = cc
 same_true D D e = refl
 
 same_self : (r : Register) → same_register r r ≡ true
@@ -50,7 +49,7 @@ gets_is f r v g h = fun_ext (λ q. go q (same_register q r) refl)
   where
     go : (q : Register) (b : Bool) → same_register q r ≡ b → g q ≡ cond b v (f q)
     go q true e = ap g (same_true q r e) ∙ h.that
-    go q false e = h.others q (λ s. let t = same_self r in let z : false ≡ true = cc in not_in_none z)
+    go q false e = h.others q (λ s. let t = same_self r in cc)
 
 is_gets : (f : Register → ℕ) (r : Register) (v : ℕ) (g : Register → ℕ) → g ≡ in_register f r v → Gets f r v g
 unfolding in_register
@@ -188,11 +187,11 @@ reads_made d p m a = go (newest-cases (m.buffers p) a)
 
 empty_from : (ws : List Write) → cond (is_empty ws) None (Some BufferNotEmpty) ≡ None → ws ≡ []
 empty_from [] h = refl
-empty_from (w ∷ ws) h = let z : ◌≡◌ {A = ℕ} 0 1 = cc in absurd (omega arith)
+empty_from (w ∷ ws) h = cc
 
 room_from : (b : Bool) → cond b None (Some BufferFull) ≡ None → b ≡ true
 room_from true h = refl
-room_from false h = let z : ◌≡◌ {A = ℕ} 0 1 = cc in absurd (omega arith)
+room_from false h = cc
 
 module _ (d p : ℕ) (s u : State) where
   changed : (i : Instruction) → Effect d p s u i → (ws : List Write) → (stepped i (s.party p) s.words).buffer ≡ ws → Becomes p (storage_of s) (words_after i (s.party p) s.words) ws (storage_of u)
@@ -293,7 +292,7 @@ forth_all l [] s u h = let e : s ≡ u = cc in subst (Execution l [] s) e done
 forth_all l (e ∷ es) s u h = go (λ t. forth_all l es t u) (next l e s) refl
   where
     go : ((t : State) → runs l es t ≡ Some u → Execution l es t u) → (t : Turn) → next l e s ≡ t → Execution l (e ∷ es) s u
-    go ih (refused n) q = let z : ◌≡◌ {A = ℕ} 0 1 = cc in absurd (omega arith)
+    go ih (refused n) q = cc
     go ih (moved t) q = let rest : runs l es t ≡ Some u = cc in more (forth l e s t q) (ih t rest)
 
 back_all : (l : Listing) (es : List Entry) (s u : State) → Execution l es s u → runs l es s ≡ Some u

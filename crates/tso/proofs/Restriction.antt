@@ -1,5 +1,5 @@
 -- The machine reads and writes the words at the routine's addresses, and no others.
-use Rattle.std.proofs.Common.{◌≡◌, ℕ, Bool, true, false, cond, ◌&&◌, ◌||◌, eqb, ltb, List, [], ◌∷◌, ◌++◌, length, is_some, Some, None, Option, sym, refl, ap, ◌∙◌, subst, arith}
+use Rattle.std.proofs.Common.{◌≡◌, ℕ, Bool, true, false, cond, ◌&&◌, ◌||◌, eqb, ltb, List, [], ◌∷◌, ◌++◌, length, is_some, Some, None, Option, sym, refl, ap, ◌∙◌, subst}
 use mathlib.Core.Path.{fun_ext}
 use Rattle.std.proofs.lemmas.Bool.{eq-eqb, eqb-true, or_parts, or_left, and_from, and_parts}
 use Rattle.instructions.specs.declared.types.Init.{Init}
@@ -8,6 +8,7 @@ use Rattle.instructions.specs.declared.types.Instruction.TheVariants.{Load, Stor
 use Rattle.grammar.specs.Listings.{Listing, code_at, addresses_of}
 use Rattle.paths.specs.Paths.{fetch}
 use Rattle.memory.specs.Cells.{Cells, put, over}
+use Rattle.memory.proofs.Puts.{put_held}
 use Rattle.orders.specs.declared.entries.Entry.{Entry}
 use Rattle.orders.specs.declared.entries.Entry.TheVariants.{Step, Drain}
 use Rattle.tso.specs.Machine.{Party, State, Turn, refused, moved, depth_of, updated, in_register, onward, later, word_of, newest, operand_value, stepped, words_after, step_fault, step_at, drain_of, next, runs}
@@ -16,7 +17,7 @@ use Rattle.tso.specs.Outcomes.{after, answer_of, answers_of, after_all, within, 
 use Rattle.tso.specs.declared.faults.EntryFault.{EntryFault}
 use Rattle.tso.specs.declared.faults.EntryFault.TheVariants.{NoParty}
 use Rattle.tso.specs.declared.writes.Write.{Write}
-use Rattle.tso.proofs.Addresses.{Named, fetched_named, not_in_none}
+use Rattle.tso.proofs.Addresses.{Named, fetched_named}
 
 -- a write within the listed addresses is the write, within them
 pub within-put : (ks : List ℕ) (f : Cells) (a w : ℕ) → put (within ks f) a w ≡ within ks (put f a w)
@@ -130,7 +131,7 @@ put_other : (ks : List ℕ) (f : Cells) (b w a : ℕ) → member b ks ≡ true �
 put_other ks f b w a hb ha = go (eqb a b) refl
   where
     go : (c : Bool) → eqb a b ≡ c → cond c (over (f a) w) (f a) ≡ f a
-    go true e = let q = eqb-true a b e in let z : false ≡ true = cc in not_in_none z
+    go true e = let q = eqb-true a b e in cc
     go false e = refl
 
 -- openings: each of the routine's addresses has its starting word, and every other is as it was
@@ -147,13 +148,13 @@ module _ (is : List Init) where
     where
       go : (missing f ks ≡ None → missing (put f k w) ks ≡ None) → (b : Bool) (o : Option ℕ)
           → ◌≡◌ {A = Option ℕ} (elim o [ None ↦ Some j | Some v ↦ missing f ks ]) None → ◌≡◌ {A = Option ℕ} (elim (cond b (over o w) o) [ None ↦ Some j | Some v ↦ missing (put f k w) ks ]) None
-      go ih b None h = let z : ◌≡◌ {A = ℕ} 0 1 = cc in absurd (omega arith)
+      go ih b None h = cc
       go ih true (Some v) h = ih h
       go ih false (Some v) h = ih h
 
   -- the first address is held, and the others are
   held_first : (k : ℕ) (o : Option ℕ) (w : ℕ) (q : Option ℕ) → ◌≡◌ {A = Option ℕ} (elim o [ None ↦ Some k | Some v ↦ q ]) None → (over o w ≡ Some w) × (q ≡ None)
-  held_first k None w q h = let z : ◌≡◌ {A = ℕ} 0 1 = cc in absurd (omega arith)
+  held_first k None w q h = cc
   held_first k (Some v) w q h = (refl, h)
 
   stays : (ks : List ℕ) (f : Cells) (a : ℕ) → f a ≡ Some (start_of is a) → started is f ks a ≡ Some (start_of is a)
@@ -165,7 +166,7 @@ module _ (is : List Init) where
       go false q = e
 
   pub started-named : (ks : List ℕ) (f : Cells) (a : ℕ) → missing f ks ≡ None → member a ks ≡ true → started is f ks a ≡ Some (start_of is a)
-  started-named [] f a h m = not_in_none m
+  started-named [] f a h m = cc
   started-named (k ∷ ks) f a h m = go (started-named ks (put f k (start_of is k)) a) (eqb a k) refl m
     where
       go : (missing (put f k (start_of is k)) ks ≡ None → member a ks ≡ true → started is (put f k (start_of is k)) ks a ≡ Some (start_of is a))
@@ -209,14 +210,6 @@ pub record Keeps (l : Listing) (s u : State) : Type 0 where
   pub waits : Waits l u
   pub others : (a : ℕ) → member a (addresses_of l) ≡ false → u.words a ≡ s.words a
   pub held : (a : ℕ) → is_some (u.words a) ≡ is_some (s.words a)
-
-put_held : (f : Cells) (b w a : ℕ) → is_some (put f b w a) ≡ is_some (f a)
-put_held f b w a = go (eqb a b) (f a)
-  where
-    go : (c : Bool) (o : Option ℕ) → is_some (cond c (over o w) o) ≡ is_some o
-    go true None = refl
-    go true (Some v) = refl
-    go false o = refl
 
 module _ (ks : List ℕ) (x : Party) (m : Cells) where
   stepped_waits : (i : Instruction) → Named ks i → waits_for ks x.buffer ≡ true → waits_for ks (stepped i x m).buffer ≡ true

@@ -1,14 +1,13 @@
 -- What an accepted entry says, and what makes one.
-use Rattle.std.proofs.Common.{◌≡◌, ℕ, Bool, true, false, ltb, List, [], ◌∷◌, length, Some, None, Option, sym, refl, ap, ◌∙◌, arith}
+use Rattle.std.proofs.Common.{◌≡◌, ℕ, Bool, true, false, ltb, List, [], ◌∷◌, length, Some, None, Option, sym, refl, ap, ◌∙◌}
 use Rattle.std.proofs.lemmas.Bool.{eq-eqb, ne_eqb}
 use Rattle.instructions.specs.declared.types.Instruction.{Instruction}
 use Rattle.grammar.specs.Listings.{Listing, code_at}
 use Rattle.paths.specs.Paths.{fetch}
 use Rattle.memory.specs.Cells.{put}
 use Rattle.orders.specs.declared.entries.Entry.TheVariants.{Step, Drain}
-use Rattle.tso.specs.Machine.{Party, State, refused, moved, depth_of, updated, stepped, words_after, step_fault, drained, next}
+use Rattle.tso.specs.Machine.{Party, State, moved, depth_of, updated, stepped, words_after, step_fault, drained, next}
 use Rattle.tso.specs.declared.faults.EntryFault.{EntryFault}
-use Rattle.tso.specs.declared.faults.EntryFault.TheVariants.{NoParty, AtEnd, BufferEmpty}
 use Rattle.tso.specs.declared.writes.Write.{Write}
 
 pub record Stepped (l : Listing) (p : ℕ) (s u : State) : Type 0 where
@@ -27,9 +26,6 @@ pub record Drained (l : Listing) (p : ℕ) (s u : State) : Type 0 where
   pub party_is : u.party ≡ updated s.party p (drained (s.party p) ws)
   pub words_is : u.words ≡ put s.words w.address w.word
 
-pub not_moved : {P : Type 0} (n : EntryFault) (u : State) → refused n ≡ moved u → P
-not_moved n u h = let z : ◌≡◌ {A = ℕ} 0 1 = cc in absurd (omega arith)
-
 pub step_made : (l : Listing) (p : ℕ) (s : State) (i : Instruction) → ltb p (length l.parties) ≡ true → fetch (code_at l p) (s.party p).position ≡ Some i → step_fault (depth_of l) i (s.party p) ≡ None
     → next l (Step p) s ≡ moved (record { party = updated s.party p (stepped i (s.party p) s.words); words = words_after i (s.party p) s.words })
 step_made l p s i a b c = cc
@@ -41,11 +37,11 @@ step_inverse l p s u h = go (ltb p (length l.parties)) refl (fetch (code_at l p)
     free i a b None c =
         let x : record { party = updated s.party p (stepped i (s.party p) s.words); words = words_after i (s.party p) s.words } ≡ u = cc (step_made l p s i a b c) in
         record { here = a; i = i; at = b; free = c; party_is = ap (λ (y : State). y.party) (sym x); words_is = ap (λ (y : State). y.words) (sym x) }
-    free i a b (Some n) c = let x : refused n ≡ moved u = cc in not_moved n u x
+    free i a b (Some n) c = cc
 
     go : (b : Bool) → ltb p (length l.parties) ≡ b → (o : Option Instruction) → fetch (code_at l p) (s.party p).position ≡ o → Stepped l p s u
-    go false a o b = let x : refused NoParty ≡ moved u = cc in not_moved NoParty u x
-    go true a None b = let x : refused AtEnd ≡ moved u = cc in not_moved AtEnd u x
+    go false a o b = cc
+    go true a None b = cc
     go true a (Some i) b = free i a b (step_fault (depth_of l) i (s.party p)) refl
 
 pub drain_made : (l : Listing) (p : ℕ) (s : State) (w : Write) (ws : List Write) → ltb p (length l.parties) ≡ true → (s.party p).buffer ≡ w ∷ ws
@@ -56,8 +52,8 @@ pub drain_inverse : (l : Listing) (p : ℕ) (s u : State) → next l (Drain p) s
 drain_inverse l p s u h = go (ltb p (length l.parties)) refl (s.party p).buffer refl
   where
     go : (b : Bool) → ltb p (length l.parties) ≡ b → (ws : List Write) → (s.party p).buffer ≡ ws → Drained l p s u
-    go false a ws b = let x : refused NoParty ≡ moved u = cc in not_moved NoParty u x
-    go true a [] b = let x : refused BufferEmpty ≡ moved u = cc in not_moved BufferEmpty u x
+    go false a ws b = cc
+    go true a [] b = cc
     go true a (w ∷ ws) b =
         let x : record { party = updated s.party p (drained (s.party p) ws); words = put s.words w.address w.word } ≡ u = cc (drain_made l p s w ws a b) in
         record { here = a; w = w; ws = ws; buffer_is = b; party_is = ap (λ (y : State). y.party) (sym x); words_is = ap (λ (y : State). y.words) (sym x) }

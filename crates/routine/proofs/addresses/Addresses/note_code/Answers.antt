@@ -9,4 +9,4 @@ use Rattle.routine.proofs.addresses.Addresses.note_code.Goals as goal
 pub returns-in_err-note : goal.returns-in_err-note
 returns-in_err-note c =
     let p = err_from_is_err_and c.from_residual.result c.from_residual.ensures.1 in
-    rw (p.1, p.2) (fold_over noted_code (λ (i : Instruction) seen. noted_in (address_in i) seen) (λ _. refl) (λ _ _ _. refl) more_code c.args.code.now c.loop-instruction.instruction-index (noted_list c.loop-instruction.self) _ c.loop-instruction.invariant _ _ c.loop-instruction-test.true (ap (λ more. few_addresses (noted_in more (noted_list c.loop-instruction.self))) (sym c.in-Some.ensures) ∙ c.in_err-note.ensures.noted))
+    rw (p.1, p.2) (fold_over noted_code (λ (i : Instruction) seen. noted_in (address_in i) seen) (λ _ _ _. refl) more_code c.args.code.now c.loop-instruction.instruction-index (noted_list c.loop-instruction.self) _ c.loop-instruction.invariant _ _ c.loop-instruction-test.true (ap (λ more. few_addresses (noted_in more (noted_list c.loop-instruction.self))) (sym c.in-Some.ensures) ∙ c.in_err-note.ensures.noted))

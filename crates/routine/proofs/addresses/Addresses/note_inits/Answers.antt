@@ -9,4 +9,4 @@ use Rattle.routine.proofs.addresses.Addresses.note_inits.Goals as goal
 pub returns-in_err-note : goal.returns-in_err-note
 returns-in_err-note c =
     let p = err_from_is_err_and c.from_residual.result c.from_residual.ensures.1 in
-    rw (p.1, p.2) (fold_over noted_inits (λ (i : Init) seen. noted i.address seen) (λ _. refl) (λ _ _ _. refl) more_inits c.args.inits.now c.loop-init.init-index (noted_list c.loop-init.self) _ c.loop-init.invariant _ _ c.loop-init-test.true c.in_err-note.ensures.noted)
+    rw (p.1, p.2) (fold_over noted_inits (λ (i : Init) seen. noted i.address seen) (λ _ _ _. refl) more_inits c.args.inits.now c.loop-init.init-index (noted_list c.loop-init.self) _ c.loop-init.invariant _ _ c.loop-init-test.true c.in_err-note.ensures.noted)

@@ -1,8 +1,6 @@
-use Rattle.std.proofs.Common.{◌≡◌, ◌&&◌, length, refl, ap, ◌∙◌, rules, tests, arith}
-use Rattle.std.specs.List.{list_all}
+use Rattle.std.proofs.Common.{◌≡◌, length, ap, ◌∙◌, rules, tests, arith}
 use Rattle.std.proofs.lemmas.Iterator.{YieldsList-from_slice}
 use Rattle.std.proofs.lemmas.Iterator.Search.{all_from_yields_List}
-use Rattle.std.proofs.lemmas.List.Recursion.{same_from_clauses}
 use Rattle.grammar.specs.Listings.{target_within, targets_within}
 use Rattle.routine.specs.Parties.{code_of}
 use Rattle.routine.proofs.party.Party.stays_within.Goals as goal
@@ -13,5 +11,4 @@ returns c =
     let end = c.len-end.result in
     let long : end ≡ length code = omega (arith, c.len-end.ensures, c.args.self.now.code.ok.0) in
     let by_call = all_from_yields_List (target_within end) _ _ _ c.all.ensures.ran (YieldsList-from_slice code cc) (λ x b q k. search (rules, tests)) in
-    let by_word = same_from_clauses (list_all (target_within end)) (targets_within end) (λ i rest. target_within end i && rest) refl (λ _ _. refl) (λ _ _. refl) code in
-    by_call ∙ by_word ∙ ap (λ n. targets_within n code) long
+    by_call ∙ ap (λ n. targets_within n code) long
