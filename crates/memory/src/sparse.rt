@@ -80,7 +80,7 @@ impl Sparse {
         self.pairs.iter().position(|pair| pair.address == address)
     }
 
-    // Puts the word into the first cell of the address, which stands at that place.
+    // Puts the word into the first cell of the address, which stands at that place: the address is for the clauses alone.
     // Not by `iter_mut().find(..)`: a proof then knows nothing of the cells afterwards but their number.
     #[tactic(auto, using(crate::proofs::Places::writes))]
     fn rewrite(&mut self, place: usize, address: u16, word: u32)

@@ -10,7 +10,7 @@ use cases::{ACCEPTED, REFUSED};
 use files::read_up_to;
 use grammar::faults::RoutineFault;
 use routine::fresh::Fresh;
-use routine::read::{LONGEST_TEXT, read};
+use routine::read::{MOST_READ, read};
 use routine::routine::Routine;
 use same::same_routine;
 use std::alloc::{AllocError, Global};
@@ -20,9 +20,6 @@ use told::Told;
 mod cases;
 mod same;
 mod told;
-
-// One byte more than a text may have, so that a longer file is refused for its length.
-const MOST_READ: usize = LONGEST_TEXT + 1;
 
 // A routine that none of the cases' texts says.
 const LAWFUL: &str = "lawful";

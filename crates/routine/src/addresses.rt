@@ -77,7 +77,8 @@ impl Addresses {
         Ok(())
     }
 
-    // Notes the addresses of INIT lines.
+    // Notes the addresses of INIT lines. A loop of its own beside that over parties: an INIT line has one address, a
+    // party a code of them.
     pub(crate) fn note_inits(&mut self, inits: &[Init]) -> Result<(), RoutineFault>
         ensures { Notes result (noted_inits inits.now (noted_list self.old)) self.new }
     {
