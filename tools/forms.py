@@ -75,7 +75,7 @@ def functions(path, text):
                 break
         params = s[i + 1 : j - 1]
         rest = s[j:]
-        a = re.match(r"\s*->\s*([^\n{;]+)", rest)
+        a = re.match(r"\s*->\s*((?:\[[^\]]*\]|[^\n{;])+)", rest)
         answer = a.group(1).strip() if a else ""
         k = j + (a.end() if a else 0)
         clauses = []

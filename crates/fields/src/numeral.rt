@@ -3,7 +3,7 @@ ghost use Rattle.std.specs.Prelude.{◌≡◌, ◌≤◌, length, decimal};
 ghost use Rattle.fields.specs.Numbers.{WrittenReadsBack, ReadIsWritten};
 
 // A number's digits are those from `start` on: an array, since printing wants no memory.
-#[derive(Clone, Copy)]
+#[derive(Clone, Copy, Debug)]
 pub struct Numeral {
     digits: [u8; 10],
     start: usize,
@@ -21,6 +21,7 @@ impl Numeral {
     {
         let mut digits = [b'0'; 10];
         let mut start = 10;
+        // What is cast is below 10.
         let mut rest = n;
         while rest >= 10 {
             start -= 1;

@@ -12,7 +12,7 @@ pub struct Place {
     pub index: usize,
 }
 
-#[derive(Clone, Copy)]
+#[derive(Clone, Copy, Debug, PartialEq, Eq)]
 pub enum Token<'a> {
     Word { text: &'a [u8], place: Place },
     Register { register: Register, place: Place },

@@ -9,7 +9,7 @@ use std::io::Read;
 use std::rt::Files;
 use std::{fs, io};
 
-// Adds the first `limit` bytes of the file, or all of a shorter one.
+// Adds the first `limit` bytes of the file, or all of a shorter one. A usize has at most 64 bits, so none is lost.
 fn read_file<R: Files>(
     files: &R,
     path: &str,

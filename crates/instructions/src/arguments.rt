@@ -100,9 +100,9 @@ fn number_up_to(field: Token, max: u32) -> Option<u32>
 }
 
 // The kinds of numbers, by type. One impl under a bound would have to ask each type for its greatest number and for
-// its way from a u32, and would be longer than the three.
+// its way from a u32, and would be longer than the three. What is cast is at most that number.
 
-// The position that a jump goes to.
+// The position that a jump goes to: at most the end of a party of 32 instructions.
 impl Argument for u8 {
     ghost is_kind = { is_number };
 

@@ -27,7 +27,7 @@ impl<M: Memory> Cache<M> {
         }
     }
 
-    // The memory below, as it stands: the lines are not written down.
+    // The memory below, as it stands: the lines are not written down. No trait for both layers, as `Offset` says.
     pub fn into_below(self) -> M
         ensures { result ≡ self.below }
     {

@@ -25,7 +25,7 @@ fn names(pairs: &[Cell], address: u16) -> bool
     pairs.iter().any(|pair| pair.address == address)
 }
 
-// Does an address stand twice?
+// Does an address stand twice? By recursion, as the definition goes: at most 32 deep, since the length is asked first.
 fn repeats(pairs: &[Cell]) -> bool
     ensures { result ≡ twice pairs.now }
 {

@@ -13,7 +13,7 @@ pub enum Unfit {
 }
 
 impl Unfit {
-    // A method, since `u8::from` would not say which number it gives. Each case has its own.
+    // A method, since `u8::from` would not say which number it gives. An arm for each case, as the definition has.
     pub fn number(&self) -> u8
         ensures { result ≡ unfit_number self.now }
     {

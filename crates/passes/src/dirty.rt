@@ -52,7 +52,7 @@ impl Arrivals {
         Arrivals { at }
     }
 
-    // Raises the arrival at a position; the answer is whether it was lower.
+    // Raises the arrival at a position; the answer is whether it was lower, as a set's `insert` says whether it was new.
     fn raise(&mut self, k: usize, to: Arrival) -> bool
         requires { k < POSITIONS }
         ensures { Spread (k, None) to result self.old.at self.new.at }
@@ -64,7 +64,7 @@ impl Arrivals {
         lower
     }
 
-    // Raises the arrival at each position that is next; the answer is whether any was lower.
+    // Raises the arrival at each next position; the answer is whether any was lower, as `raise` gives it.
     fn spread(&mut self, step: Step, to: Arrival) -> bool
         ensures { Spread (next_of step.instruction step.k) to result self.old.at self.new.at }
     {

@@ -6,7 +6,8 @@ ghost use Rattle.passes.specs.Local.{next_of, is_load, is_store, is_barrier};
 
 use instructions::types::Instruction;
 
-// The positions of a party's code, the end of the longest included.
+// The positions of a party's code, the end of the longest included: one more than a party's most instructions, which
+// `routine` keeps to itself.
 pub(crate) const POSITIONS: usize = 33;
 
 // A position and the instruction there, after which control is at one of the positions again.

@@ -28,7 +28,7 @@ pub(crate) trait Marks {
         ensures fewer { IsTrue result → left self.new < left self.old };
 }
 
-// Visits each position once; the answer is whether any mark changed.
+// Visits each position once; the answer is whether any mark changed, a bool as `visit` gives.
 fn sweep<M: Marks>(marks: &mut M, code: &LawfulCode<'_>) -> bool
     requires { M.is_sound code.now marks.old }
     ensures sound { M.is_sound code.now marks.new }

@@ -3,6 +3,8 @@ ghost use Rattle.std.specs.Prelude.{◌≡◌};
 ghost use Rattle.printing.specs.Pages.{EndFits, Wrote};
 
 // The next byte goes to the place `at`. A byte that has no place in the buffer is left out.
+// A buffer and a place and no Vec, since printing wants no memory; the place goes on past the end, so that it gives the
+// text's length.
 #[derive(Drop)]
 pub(crate) struct Page<'a> {
     out: &'a mut [u8],
@@ -19,7 +21,8 @@ impl<'a> Page<'a> {
         Page { out, at: 0 }
     }
 
-    // Writes the bytes, and goes on after them.
+    // Writes the bytes, and goes on after them. That the end fits is no invariant of the page: it speaks of a text still
+    // to be written.
     #[tactic(auto, using(crate::proofs::Written::sets_part))]
     pub(crate) fn put(&mut self, bytes: &[u8])
         requires { EndFits self.old bytes.now }

@@ -65,6 +65,7 @@ fn show_all(rt: &HostRuntime, names: &[&str], into: &mut Fresh, kept: &Routine) 
 fn main(rt: HostRuntime) -> io::Result<()> {
     let mut routine = fresh(rt.alloc())?;
     let mut lawful = fresh(rt.alloc())?;
+    // What it answers is shown by the next line, which reads the same text.
     let _ = read_case(&rt, LAWFUL, &mut lawful)?;
     show(&rt, LAWFUL, &mut routine)?;
     show_all(&rt, REFUSED, &mut routine, lawful.routine())?;

@@ -1,5 +1,5 @@
 // Why there is no report.
-ghost use Rattle.std.specs.Prelude.{◌≡◌};
+ghost use Rattle.std.specs.Prelude.{◌≡◌, Some, codes};
 ghost use Rattle.reports.specs.Faults.{report_code};
 ghost use Rattle.reports.specs.declared.faults.ReportFault.{ReportFault};
 
@@ -16,6 +16,8 @@ pub enum ReportFault {
 }
 
 impl fmt::Display for ReportFault {
+    ghost output = { λ _. Some (codes "no memory") };
+
     fn fmt<W: fmt::Write>(&self, f: &mut fmt::Formatter<W>) -> fmt::Result {
         match self {
             ReportFault::Memory => f.write_str("no memory"),
@@ -28,7 +30,7 @@ impl Error for ReportFault {}
 impl From<AllocError> for ReportFault {
     ghost from_gives = { λ _ r. r ≡ ReportFault.Memory };
 
-    fn from(_e: AllocError) -> ReportFault {
+    fn from(_: AllocError) -> ReportFault {
         ReportFault::Memory
     }
 }

@@ -97,7 +97,7 @@ impl Draft {
         Ok(())
     }
 
-    // One line more, whose word may stand there.
+    // One line more, whose word may stand there. By a match: what a line says is data, and each case asks its own.
     fn accept(&mut self, line: Line, number: usize) -> Result<(), RoutineFault>
         requires { may_stand self.old.stage (word_of line) ≡ true }
         ensures { Joined result (accept line number (drafted self.old)) (drafted self.new) }

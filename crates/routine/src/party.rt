@@ -11,7 +11,7 @@ use std::alloc::{AllocError, Global};
 pub(crate) const MOST_INSTRUCTIONS: usize = 32;
 
 // It has at most 32 instructions, and room for as many.
-#[derive(PartialEq, Eq, Drop)]
+#[derive(Debug, PartialEq, Eq, Drop)]
 pub struct Party {
     code: Vec<Instruction>,
     ghost room: { 32 ≤ vec_capacity code },

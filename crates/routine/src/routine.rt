@@ -14,7 +14,7 @@ use std::alloc::{AllocError, Global};
 use std::mem;
 
 // Every routine that exists keeps the limits, and knows the addresses that it names: the two facts of `IsComplete`,
-// each by its name, since other crates cite them one by one.
+// each by its name, since other crates cite the first alone.
 #[derive(Drop)]
 pub struct Routine {
     storage: Storage,
