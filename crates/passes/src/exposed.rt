@@ -71,7 +71,8 @@ impl Marks for Exposure {
     }
 }
 
-// Marks each position after which a write can show: there a fence stays.
+// Marks each position after which a write can show: there a fence stays. The steps are those of `dirty`, at other marks:
+// one function for both would ask `Marks` for the start and the end of each.
 pub(crate) fn exposed_after(code: &LawfulCode<'_>) -> [bool; POSITIONS]
     ensures { BackwardOf code.now (thin_from (marked result) 0 code.now) }
 {
