@@ -1,5 +1,5 @@
 -- Bytes 10 before a place.
-use Rattle.std.proofs.Common.{◌≡◌, ℕ, suc, ◌+◌, true, cond, List, [], ◌∷◌, ◌++◌, length, take, drop, refl, ap, ◌∙◌, arith, take-add}
+use Rattle.std.proofs.Common.{◌≡◌, ℕ, suc, ◌+◌, ◌-◌, ◌≤◌, true, cond, List, [], ◌∷◌, ◌++◌, length, take, drop, sym, refl, ap, ◌∙◌, arith, take-add}
 use Rattle.std.proofs.lemmas.Bool.{and_parts, not-true}
 use Rattle.std.proofs.lemmas.List.Sums.{sum_by-append, sum_by-cons}
 use Rattle.fields.specs.Newlines.{newlines}
@@ -12,6 +12,17 @@ newlines-append xs ys = sum_by-append _ xs ys
 -- in a part of the text
 pub newlines_add : (n m : ℕ) (xs : List ℕ) → newlines (take (n + m) xs) ≡ newlines (take n xs) + newlines (take m (drop n xs))
 newlines_add n m xs = ap newlines (take-add n m xs) ∙ newlines-append (take n xs) (take m (drop n xs))
+
+-- between two places with the same count
+pub newlines_between : (xs : List ℕ) (a k b : ℕ) → a ≤ k → k ≤ b → newlines (take b xs) ≡ newlines (take a xs) → newlines (take k xs) ≡ newlines (take a xs)
+newlines_between xs a k b low high same =
+    let m = newlines_add a (k - a) xs in
+    let n = newlines_add k (b - k) xs in
+    let e : a + (k - a) ≡ k = omega arith in
+    let f : k + (b - k) ≡ b = omega arith in
+    let p : newlines (take k xs) ≡ newlines (take a xs) + newlines (take (k - a) (drop a xs)) = sym (ap (λ t. newlines (take t xs)) e) ∙ m in
+    let q : newlines (take b xs) ≡ newlines (take k xs) + newlines (take (b - k) (drop k xs)) = sym (ap (λ t. newlines (take t xs)) f) ∙ n in
+    omega arith
 
 newlines_none : (xs : List ℕ) → lacks 10 xs ≡ true → newlines xs ≡ 0
 newlines_none [] h = refl

@@ -2,21 +2,35 @@
 
 #![tactic(auto)]
 
-ghost use Rattle.std.specs.Prelude.{◌≤◌, IfOk, vec_len};
+ghost use Rattle.std.specs.Prelude.{◌≤◌, length, IfOk, vec_len};
 
 use std::alloc::AllocError;
 use std::io::Read;
 use std::rt::Files;
 use std::{fs, io};
 
-// Adds the first `limit` bytes of the file, or all of a shorter one. A usize has at most 64 bits, so none is lost.
-fn read_file<R: Files>(
-    files: &R,
-    path: &str,
-    limit: usize,
-    bytes: &mut Vec<u8>,
-) -> io::Result<usize> {
-    fs::open(files, path)?.take(limit as u64).read_to_end(bytes)
+// Fills the buffer from its start, until it is full or the input ends: how many bytes came.
+// By hand: no contract of std's `read_to_end` says that it reads no further than is wanted, nor that it ends where reads
+// are interrupted again and again. Here the buffer's length counts the turns, since each but the last puts a byte.
+fn fill<I: Read>(input: &mut I, buffer: &mut [u8]) -> io::Result<usize>
+    ensures { IfOk result (λ n. n ≤ length buffer.new) }
+{
+    let mut filled = 0;
+    while filled < buffer.len() {
+        let count = input.read(&mut buffer[filled..])?;
+        if count == 0 {
+            break;
+        }
+        filled += count;
+    }
+    Ok(filled)
+}
+
+// Fills the buffer from the file's start: how many bytes came.
+fn fill_from<R: Files>(files: &R, path: &str, buffer: &mut [u8]) -> io::Result<usize>
+    ensures { IfOk result (λ n. n ≤ length buffer.new) }
+{
+    fill(&mut fs::open(files, path)?, buffer)
 }
 
 // The first `limit` bytes of the file, or all of a shorter one.
@@ -29,12 +43,8 @@ pub fn read_up_to<R: Files + AllocGlobal>(
 ) -> Result<Vec<u8>, AllocError>
     ensures { IfOk result (λ v. vec_len v ≤ limit) }
 {
-    // The place for one byte more is where the reading finds the end, so it wants no memory of its own.
-    let mut bytes = Vec::with_capacity(rt.alloc(), limit.saturating_add(1))?;
-    if read_file(rt, path, limit, &mut bytes).is_err() {
-        bytes.clear();
-    }
-    // `take` has stopped there; but no contract says so of a file.
-    bytes.truncate(limit);
+    let mut bytes = vec![in rt.alloc(); 0; limit]?;
+    let count = fill_from(rt, path, &mut bytes).unwrap_or(0);
+    bytes.truncate(count);
     Ok(bytes)
 }

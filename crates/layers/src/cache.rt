@@ -92,8 +92,9 @@ impl<M: Memory> Memory for Cache<M> {
     }
 
     // A line counts only where its address is held below, so that is asked first. After it the address is in its line.
+    // Not by the cache's own `holds`: so an edit of that plants a bug in that alone.
     fn read(&mut self, address: u16) -> Result<u32, NotHeld> {
-        if !self.holds(address) {
+        if !self.below.holds(address) {
             return Err(NotHeld);
         }
         match self.lines.find(address) {

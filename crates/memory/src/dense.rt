@@ -41,10 +41,12 @@ impl Memory for Dense {
 
     fn write(&mut self, address: u16, word: u32) -> Result<(), NotHeld> {
         // Not `get_mut`: a proof then knows nothing of the words afterwards but their number.
-        if !self.holds(address) {
+        // Not `holds`: so an edit of that plants a bug in that alone.
+        let i = usize::from(address);
+        if i >= SIZE {
             return Err(NotHeld);
         }
-        self.words[usize::from(address)] = word;
+        self.words[i] = word;
         Ok(())
     }
 }

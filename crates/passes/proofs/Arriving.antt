@@ -9,7 +9,7 @@ use Rattle.paths.specs.Paths.{Code, fetch}
 use Rattle.paths.specs.Marks.{Walk}
 use Rattle.passes.specs.declared.dirty.Arrival.{Arrival}
 use Rattle.passes.specs.declared.dirty.Arrival.TheVariants as arrival
-use Rattle.passes.specs.Arrivals.{arrival_at, rank_of, after_of, Spread, Good, Arrives, SpentAt}
+use Rattle.passes.specs.Arrivals.{arrival_at, rank_of, is_dirty, after_of, Spread, Good, Arrives, SpentAt}
 use Rattle.passes.specs.Local.{AtEach, next_of, is_store, is_barrier, Leads}
 use Rattle.passes.specs.Marked.{DirtyMarks}
 use Rattle.routine.specs.Thins.{marked}
@@ -22,6 +22,11 @@ sound_step m m' k i v s c f t = record { truth = λ j. go j (s.origin j); start 
     go : (j : ℕ) → (arrival_at m' j ≡ arrival_at m j) ⊎ (Leads (next_of i k) j × (arrival_at m' j ≡ after_of i (arrival_at m k))) → Good c j (arrival_at m' j)
     go j (inl e) = subst (λ (x : Arrival). Good c j x) (sym e) (t.truth j)
     go j (inr p) = subst (λ (x : Arrival). Good c j x) (sym p.1) (good_step c k j i (arrival_at m k) f (follows i k j p.0) (t.truth k))
+
+pub dirty_is : (a : Arrival) → is_dirty a ≡ true → a ≡ arrival.Dirty
+dirty_is arrival.Never e = absurd cc
+dirty_is arrival.Clean e = absurd cc
+dirty_is arrival.Dirty e = refl
 
 rank_dirty : (a : Arrival) → 2 ≤ rank_of a → a ≡ arrival.Dirty
 rank_dirty arrival.Never h = absurd (omega arith)

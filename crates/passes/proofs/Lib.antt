@@ -1,3 +1,4 @@
+pub mod Copied
 pub mod Applied
 pub mod Arriving
 pub mod Exposing

@@ -17,6 +17,11 @@ rank_of arrival.Never = 0
 rank_of arrival.Clean = 1
 rank_of arrival.Dirty = 2
 
+abbrev pub is_dirty : Arrival → Bool
+is_dirty arrival.Never = false
+is_dirty arrival.Clean = false
+is_dirty arrival.Dirty = true
+
 -- the arrival after instruction i, by the one at it
 abbrev pub after_of : Instruction → Arrival → Arrival
 after_of i arrival.Never = arrival.Never

@@ -1,7 +1,7 @@
 // The marks of the forward rule: the positions to which a path leads that has a ST and no barrier after it.
 ghost use Rattle.std.specs.Prelude.{◌≡◌, ℕ, ◌<◌, IsTrue, ◌↔◌};
 ghost use Rattle.paths.specs.Paths.{Code};
-ghost use Rattle.passes.specs.Arrivals.{Arrives, SpentAt, Spread, after_of, arrival_at, lacking};
+ghost use Rattle.passes.specs.Arrivals.{Arrives, SpentAt, Spread, after_of, arrival_at, is_dirty, lacking};
 ghost use Rattle.passes.specs.Local.{next_of};
 ghost use Rattle.passes.specs.Marked.{DirtyMarks};
 ghost use Rattle.routine.specs.Thins.{marked};
@@ -33,6 +33,12 @@ impl Arrival {
             Arrival::Dirty if is_barrier(instruction) => Arrival::Clean,
             Arrival::Clean | Arrival::Dirty => self,
         }
+    }
+
+    fn is_dirty(self) -> bool
+        ensures { result ≡ is_dirty self }
+    {
+        matches!(self, Arrival::Dirty)
     }
 }
 
@@ -76,11 +82,16 @@ impl Arrivals {
         raised
     }
 
-    // Which positions are dirty.
+    // Which positions are dirty. By a loop: the array's `map` takes longer than all sweeps over a short code, and with
+    // `array::from_fn` the proof did not close.
     fn dirty_ones(&self) -> [bool; POSITIONS]
         ensures { (k : ℕ) → IsTrue (marked result k) ↔ (arrival_at self.now.at k ≡ Arrival.Dirty) }
     {
-        self.at.map(|arrival| arrival == Arrival::Dirty)
+        let mut marks = [false; POSITIONS];
+        for k in 0..POSITIONS {
+            marks[k] = self.at[k].is_dirty();
+        }
+        marks
     }
 }
 

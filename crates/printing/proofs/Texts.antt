@@ -1,11 +1,11 @@
 -- The text of a routine, as its parts one after another.
-use Rattle.std.proofs.Common.{◌≤◌, length, Ok, ◌≡◌, ℕ, List, [], ◌∷◌, ◌++◌, map, sym, refl, ap, append-nil, append_assoc}
+use Rattle.std.proofs.Common.{◌≤◌, length, Ok, ◌≡◌, ℕ, List, [], ◌∷◌, ◌++◌, map, sym, refl, ap, ◌∙◌, append-nil, append_assoc}
 use Rattle.std.specs.List.{flat_map}
 use Rattle.fields.specs.Pieces.{joined_by}
 use Rattle.grammar.proofs.Exactly.{written_is_read}
 use Rattle.grammar.specs.Reads.{read_of}
 use Rattle.grammar.specs.Texts.{ended, code_lines, init_lines, party_lines, text_of}
-use Rattle.instructions.specs.Texts.{operand_text}
+use Rattle.instructions.specs.Texts.{line_text, operand_text}
 use Rattle.instructions.specs.declared.types.Init.{Init}
 use Rattle.instructions.specs.declared.types.Instruction.{Instruction}
 use Rattle.instructions.specs.declared.types.Line.{Line}
@@ -22,6 +22,19 @@ use Rattle.printing.specs.Lines.{field_text, instruction_line, init_line, party_
 pub joined_fields : (first : List ℕ) (fields : List Operand) → joined_by 32 (first ∷ map operand_text fields) ≡ first ++ flat_map field_text fields
 joined_fields first [] = sym (append-nil first)
 joined_fields first (f ∷ fs) = ap (λ bs. first ++ (32 ∷ bs)) (joined_fields (operand_text f) fs)
+
+-- lines that follow others
+pub ended-append : (ls ms : List Line) → ended (ls ++ ms) ≡ ended ls ++ ended ms
+ended-append [] ms = refl
+ended-append (l ∷ ls) ms = ap (λ bs. line_text l ++ (10 ∷ bs)) (ended-append ls ms) ∙ sym (append_assoc (line_text l) (10 ∷ ended ls) (ended ms))
+
+pub code_lines-append : (is : List Instruction) (more : List Line) → code_lines is more ≡ code_lines is [] ++ more
+code_lines-append [] more = refl
+code_lines-append (i ∷ is) more = ap (λ ls. line.Instruction i ∷ ls) (code_lines-append is more)
+
+pub init_lines-append : (is : List Init) (more : List Line) → init_lines is more ≡ init_lines is [] ++ more
+init_lines-append [] more = refl
+init_lines-append (i ∷ is) more = ap (λ ls. line.Init i ∷ ls) (init_lines-append is more)
 
 -- the INIT lines, and what comes after them
 pub inits_text : (is : List Init) (more : List Line) → ended (init_lines is more) ≡ flat_map init_line is ++ ended more

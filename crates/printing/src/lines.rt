@@ -15,9 +15,9 @@ impl Text for Operand {
     ghost text = { field_text };
 
     fn write(&self, page: &mut Page) {
-        page.put(b" ");
+        page.put_byte(b' ');
         match *self {
-            Operand::Register(register) => page.put(&[register.letter()]),
+            Operand::Register(register) => page.put_byte(register.letter()),
             Operand::Constant(n) => page.put(Numeral::of(n).bytes()),
         }
     }
@@ -31,7 +31,7 @@ fn write_line(keyword: Keyword, fields: &[Operand], page: &mut Page)
 {
     page.put(keyword.spelling());
     write_all(fields, page);
-    page.put(b"\n");
+    page.put_byte(b'\n');
 }
 
 // An address or a position, which is written as a constant is.

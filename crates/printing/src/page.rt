@@ -1,5 +1,5 @@
 // A lent buffer that texts are written into, one after another.
-ghost use Rattle.std.specs.Prelude.{◌≡◌};
+ghost use Rattle.std.specs.Prelude.{◌≡◌, [], ◌∷◌};
 ghost use Rattle.printing.specs.Pages.{EndFits, Wrote};
 
 // The next byte goes to the place `at`. A byte that has no place in the buffer is left out.
@@ -21,17 +21,27 @@ impl<'a> Page<'a> {
         Page { out, at: 0 }
     }
 
-    // Writes the bytes, and goes on after them. That the end fits is no invariant of the page: it speaks of a text still
-    // to be written.
-    #[tactic(auto, using(crate::proofs::Written::sets_part))]
+    // Writes the byte, and goes on after it. That the end fits is no invariant of the page: it speaks of a text still to
+    // be written.
+    #[tactic(auto, using(std::proofs::lemmas::List::set_past))]
+    pub(crate) fn put_byte(&mut self, byte: u8)
+        requires { EndFits self.old (byte ∷ []) }
+        ensures { Wrote self.old (byte ∷ []) self.new }
+    {
+        if self.at < self.out.len() {
+            self.out[self.at] = byte;
+        }
+        self.at += 1;
+    }
+
+    // Writes the bytes, and goes on after them. One by one: they are few, and a copy of a part takes several times as long.
+    #[tactic(auto, using(std::proofs::lemmas::Grind::common_steps, crate::proofs::Written::in_turn))]
     pub(crate) fn put(&mut self, bytes: &[u8])
         requires { EndFits self.old bytes.now }
         ensures { Wrote self.old bytes.now self.new }
     {
-        let end = self.at + bytes.len();
-        let start = self.at.min(self.out.len());
-        let stop = end.min(self.out.len());
-        self.out[start..stop].copy_from_slice(&bytes[..stop - start]);
-        self.at = end;
+        for &byte in bytes {
+            self.put_byte(byte);
+        }
     }
 }

@@ -1,14 +1,13 @@
 // What became of a fence.
-ghost use Rattle.std.specs.Prelude.{◌≡◌, Some, unwrap_or};
+ghost use Rattle.std.specs.Prelude.{◌≡◌, unwrap_or};
 ghost use Rattle.std.specs.Option.{option_copied};
 ghost use Rattle.instructions.specs.declared.types.Instruction.TheVariants.{Nop};
 ghost use Rattle.reports.specs.Fates.{fate_text};
 ghost use Rattle.reports.specs.Fences.{fate};
 
 use instructions::types::Instruction;
-use std::fmt;
 
-// A type of its own and no `Option<Pass>`, which could have no `Display` here.
+// A type of its own and no `Option<Pass>`, which could have no methods here.
 #[derive(Clone, Copy, Debug, PartialEq, Eq)]
 pub(crate) enum Fate {
     // The forward pass took it out.
@@ -30,16 +29,15 @@ impl Fate {
             _ => Fate::Forward,
         }
     }
-}
 
-impl fmt::Display for Fate {
-    ghost output = { λ f. Some (fate_text f) };
-
-    fn fmt<W: fmt::Write>(&self, f: &mut fmt::Formatter<W>) -> fmt::Result {
-        f.write_str(match self {
+    // How it is told. Not by a `Display`, whose `fmt` may fail: no clause could say that a fence has its line.
+    pub(crate) fn text(self) -> &'static str
+        ensures { result.now ≡ fate_text self }
+    {
+        match self {
             Fate::Forward => "FORWARD",
             Fate::Backward => "BACKWARD",
             Fate::Stays => "STAYS",
-        })
+        }
     }
 }

@@ -64,7 +64,7 @@ fn add_party_fates(
 {
     for (position, instruction) in original.iter().enumerate() {
         if is_fence(instruction) {
-            let fate = Fate::new(forward.get(position), thinned.get(position));
+            let fate = Fate::new(forward.get(position), thinned.get(position)).text();
             writeln!(out, "FENCE {party} {position} {fate}")?;
         }
     }

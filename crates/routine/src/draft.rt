@@ -124,7 +124,8 @@ impl Draft {
 
     // The questions at the text's end.
     fn finish(&mut self) -> Result<(), RoutineFault>
-        ensures { ReadInto (finished (drafted self.old)) result self.new }
+        ensures read { ReadInto (finished (drafted self.old)) result self.new }
+        ensures same { drafted self.new ≡ drafted self.old }
     {
         if self.stage == Stage::Inside || self.storage.parties().len() < FEWEST_PARTIES {
             return Err(RoutineFault::Unfinished);

@@ -4,4 +4,4 @@ use Rattle.layers.proofs.lines.Lines.replace.Goals as goal
 pub invariant_of-self-clause-placed : goal.invariant_of-self-clause-placed
 invariant_of-self-clause-placed c =
     let s = c.args.self.now in
-    rw (c.from.ensures, c.replace.ensures.after) (placed_lined s.slots c.args.address c.args.word s.four s.placed)
+    rw c.from-i.ensures (placed_lined s.slots c.args.address c.args.word s.four s.placed)
