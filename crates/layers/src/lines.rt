@@ -24,7 +24,8 @@ impl Lines {
     pub(crate) fn find(&self, address: u16) -> Option<u32>
         ensures { result ≡ word_in (line_of self.now.slots address) address }
     {
-        // By a match, and `replace` not by that of `Option`: with these, calls of a cache on a cache take a quarter longer.
+        // A match, and an assignment in `replace`: by `filter`, `map` and `Option::replace` calls of a cache on a cache take
+        // a quarter longer.
         let slot = self.slots[usize::from(address % 4)];
         match slot {
             Some(line) if line.address == address => Some(line.word),

@@ -30,7 +30,7 @@ impl Fate {
         }
     }
 
-    // How it is told. Not by a `Display`, whose `fmt` may fail: no clause could say that a fence has its line.
+    // How it is told. Not by a `Display`: no clause keeps its `fmt` from failing.
     pub(crate) fn text(self) -> &'static str
         ensures { result.now ≡ fate_text self }
     {
